@@ -1,0 +1,6 @@
+pub mod NumberLaws
+pub mod SameLaws
+pub mod DigitLaws
+pub mod Xor
+pub mod Table
+pub mod Parts

@@ -1,0 +1,83 @@
+// Numbers as octets, equality of strings, and digits: what more than one crate needs.
+ghost use mathlib.Core.Path.{_≡_};
+ghost use mathlib.Core.List.{[], _∷_};
+ghost use Prim.Native.Nat.{_%_};
+ghost use Rattle.octets.specs.Numbers.{le, leOctets};
+ghost use Rattle.octets.specs.Same.{same as alike};
+ghost use Rattle.octets.specs.Digits.{digits as areDigits, hexDigit, hexOctet};
+
+// The word of four octets, least significant first.
+pub fn word(b0: u8, b1: u8, b2: u8, b3: u8) -> u32
+    ensures { λ r. ⌜ r ≡ le (b0 ∷ b1 ∷ b2 ∷ b3 ∷ []) ⌝ }
+{
+    b0 as u32 + 256 * (b1 as u32 + 256 * (b2 as u32 + 256 * b3 as u32))
+}
+
+// The four octets of a word, least significant first.
+pub fn word_octets(x: u32) -> [u8; 4]
+    ensures { λ r. ⌜ r ≡ leOctets 4 x ⌝ }
+{
+    let x1 = x / 256;
+    let x2 = x1 / 256;
+    let x3 = x2 / 256;
+    [
+        (x % 256) as u8,
+        (x1 % 256) as u8,
+        (x2 % 256) as u8,
+        (x3 % 256) as u8,
+    ]
+}
+
+// Whether two strings are equal. The time depends on their lengths alone.
+pub fn same(a: &[u8], b: &[u8]) -> bool
+    ensures { λ r. ⌜ r ≡ alike (now (a .entry)) (now (b .entry)) ⌝ }
+{
+    if a.len() != b.len() {
+        return false;
+    }
+    let mut differ: u8 = 0;
+    let mut i = 0;
+    while i < a.len() {
+        differ = differ | (a[i] ^ b[i]);
+        i += 1;
+    }
+    differ == 0
+}
+
+// Whether s is n digits from 0 to 9 and then fillers.
+pub fn digits(s: &[u8], n: usize, filler: u8) -> bool
+    ensures { λ r. ⌜ r ≡ areDigits filler n (now (s .entry)) ⌝ }
+{
+    let mut left = n;
+    let mut i = 0;
+    while i < s.len() {
+        let x = s[i];
+        if left == 0 {
+            if x != filler {
+                return false;
+            }
+        } else {
+            if x > 9 {
+                return false;
+            }
+            left -= 1;
+        }
+        i += 1;
+    }
+    left == 0
+}
+
+// The hexadecimal digit of the lower half of n.
+pub fn hex_digit(n: u8) -> u8
+    ensures { λ r. ⌜ r ≡ hexDigit (n % 16) ⌝ }
+{
+    let d = n % 16;
+    if d <= 9 { 48 + d } else { 87 + d }
+}
+
+// The two hexadecimal digits of an octet.
+pub fn hex(b: u8) -> [u8; 2]
+    ensures { λ r. ⌜ r ≡ hexOctet b ⌝ }
+{
+    [hex_digit(b / 16), hex_digit(b)]
+}

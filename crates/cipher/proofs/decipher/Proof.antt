@@ -1,0 +1,36 @@
+use denote.Ref.{now}
+use mathlib.Core.Path.{_≡_, ap, _∙_}
+use mathlib.Core.List.{List}
+use Prim.Native.Nat.{ℕ}
+use Rattle.cipher.specs.Gost.{decipher}
+use Rattle.cipher.specs.Answers.{deciphered, noBlock}
+use Rattle.cipher.proofs.AnswerLaws.{no-key, no-block, fits}
+use borrow.Author.Needs.{needs}
+use Rattle.cipher.proofs.decipher.Statement.{statement}
+use Rattle.cipher.proofs.decipher.Tie as tie
+
+returns : tie.Need-returns
+unfolding deciphered noBlock
+returns c = no-key _ _ _ (c .if1 .taken)
+
+returns-2 : tie.Need-returns-2
+unfolding deciphered noBlock
+returns-2 c = no-block _ _ _ (c .if2 .taken)
+
+returns-3 : tie.Need-returns-3
+unfolding deciphered decipher
+returns-3 c =
+    let x = c .before .before .before .before .before .before .before .args in
+    ap (λ (y : List ℕ). record { code = 0; bytes = y }) (cc)
+    ∙ fits (now (x .key)) (now (x .block)) (decipher (now (x .key)) (now (x .block))) (search needs) (search needs)
+
+pub decipher-spec : {M : Type 1} → statement M
+decipher-spec =
+    tie.close
+    (tie.spec
+    returns
+    returns-2
+    (λ c κs. search needs)
+    (λ c κs. search needs)
+    (λ c κs. search needs)
+    returns-3)

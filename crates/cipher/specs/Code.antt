@@ -1,0 +1,28 @@
+-- The authentication code of GOST 28147-89 (RFC 5830, section 8): 16 rounds a block, over one or more whole blocks of 8 octets.
+-- Assumes nothing.
+use Prim.Native.Nat.{ℕ}
+use mathlib.Core.List.{List, _++_}
+use lib.Bits.{bitXor}
+use Rattle.octets.specs.Numbers.{leOctets}
+use Rattle.blocks.specs.Blocks.{absorbed}
+use Rattle.cipher.specs.declared.Halves.{Halves}
+use Rattle.cipher.specs.Gost.{rounds, halves}
+
+-- two states added modulo 2
+unfoldable pub added : Halves → Halves → Halves
+added s t = record { n1 = bitXor (s .n1) (t .n1); n2 = bitXor (s .n2) (t .n2) }
+
+-- a block is added to the state, and the first 16 of the 32 rounds follow: the subkeys twice up
+unfoldable pub step : List ℕ → Halves → List ℕ → Halves
+step ks s b = rounds (ks ++ ks) (added s (halves b))
+
+unfoldable pub start : Halves
+start = record { n1 = 0; n2 = 0 }
+
+-- the state after the whole blocks of m, under the subkeys of a key
+unfoldable pub state : List ℕ → List ℕ → Halves
+state ks m = absorbed 8 (step ks) start m
+
+-- the code is N1 of the last state, least significant octet first
+unfoldable pub codeOf : List ℕ → List ℕ → List ℕ
+codeOf ks m = leOctets 4 (state ks m .n1)

@@ -1,0 +1,3 @@
+pub mod Gost
+pub mod Code
+pub mod Answers

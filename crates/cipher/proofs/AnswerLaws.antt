@@ -1,12 +1,10 @@
 -- What the entry points answer, test by test. Assumes nothing.
-use mathlib.Core.Path.{_≡_, refl, ap}
-use mathlib.Core.Bool.{Bool, true, false, _&&_, not, cond, and-false}
+use mathlib.Core.Path.{_≡_}
+use mathlib.Core.Bool.{and-false}
 use mathlib.Core.List.{List}
 use Prim.Native.Nat.{ℕ, _%_}
 use borrow.Author.Tests.{eq-eqb, ne-eqb}
 use lib.ListN.{length}
-use Rattle.cipher.specs.declared.BlockAnswer.{BlockAnswer}
-use Rattle.cipher.specs.declared.CodeAnswer.{CodeAnswer}
 use Rattle.cipher.specs.Gost.{subkeys}
 use Rattle.cipher.specs.Code.{codeOf}
 use Rattle.cipher.specs.Answers.{keyFits, blockFits, stringFits, noBlock, noCode, blockAnswer, codedWith, coded}

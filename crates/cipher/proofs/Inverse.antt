@@ -7,9 +7,9 @@ use Rattle.octets.specs.Numbers.{Octets}
 use Rattle.cipher.specs.declared.Halves.{Halves}
 use Rattle.cipher.specs.declared.BlockAnswer.{BlockAnswer}
 use Rattle.cipher.specs.Gost.{rounds, exchanged, halves, block, through, forth, back, subkeys, encipher, decipher}
-use Rattle.cipher.specs.Answers.{blockAnswer, enciphered, deciphered}
+use Rattle.cipher.specs.Answers.{enciphered, deciphered}
 use Rattle.cipher.proofs.AnswerLaws.{fits}
-use Rattle.cipher.proofs.Rounds.{Words, rounds-back, rounds-words, exchanged-words, reverse-forth, reverse-back}
+use Rattle.cipher.proofs.Rounds.{rounds-back, rounds-words, exchanged-words, reverse-forth, reverse-back}
 use Rattle.cipher.proofs.Octets.{length-block, halves-block, halves-words, block-halves}
 
 exchanged-twice : (s : Halves) → exchanged (exchanged s) ≡ s

@@ -1,5 +1,5 @@
 -- Blocks as octets and as halves. Assumes nothing.
-use mathlib.Core.Path.{_≡_, refl, sym, ap, ap₂, _∙_, subst}
+use mathlib.Core.Path.{_≡_, refl, ap, ap₂, _∙_, subst}
 use Prim.Native.Nat.{ℕ, suc, _+_, _^_, _≤_, _<_}
 use mathlib.Core.List.{List, [], _∷_, _++_}
 use native.Mathlib.Omega.{arith}
@@ -8,7 +8,7 @@ use lib.Dec.{lit≤}
 use lib.Seq.{drop-drop, take-add, take-all, take-take, length-take-le, drop-at}
 use Rattle.octets.specs.Numbers.{Octets, le, leOctets}
 use Rattle.octets.proofs.Parts.{octets-take, octets-drop}
-use Rattle.octets.proofs.NumberLaws.{length-leOctets, le-leOctets, leOctets-le, le-lt}
+use Rattle.octets.proofs.NumberLaws.{le-leOctets, leOctets-le, le-lt}
 use Rattle.cipher.specs.declared.Halves.{Halves}
 use Rattle.cipher.specs.Gost.{halves, block, subkeys}
 use Rattle.cipher.proofs.Rounds.{Words}

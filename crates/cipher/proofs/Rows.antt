@@ -2,13 +2,13 @@
 use mathlib.Core.Path.{_≡_, refl, sym, ap₂}
 use mathlib.Core.Bool.{Bool, true, false, _&&_}
 use mathlib.Core.List.{List, [], _∷_}
-use Prim.Native.Nat.{ℕ, suc, _+_, _*_, _/_, _%_, _^_, _<_, _≤_}
+use Prim.Native.Nat.{ℕ, suc, _+_, _*_, _/_, _%_, _^_, _<_}
 use native.Mathlib.Nat.{add-zero, pow-zero, pow-succ'}
 use native.Mathlib.Omega.{arith}
 use lib.Dec.{T, eqb, eqb→eq}
 use lib.ListN.{length, getD}
-use Rattle.octets.proofs.Table.{every, at}
-use Rattle.cipher.specs.Gost.{pi0, pi1, pi2, pi3, pi4, pi5, pi6, pi7, rows, substituted}
+use Rattle.octets.proofs.Table.{every, at, and-left, and-right}
+use Rattle.cipher.specs.Gost.{rows, substituted}
 
 -- a row in a word: entry k is half-byte k
 abbrev nibble : ℕ → ℕ → ℕ → Bool
@@ -34,14 +34,6 @@ hold [] [] = true
 hold [] (p ∷ ps) = false
 hold (w ∷ ws) [] = false
 hold (w ∷ ws) (p ∷ ps) = every (nibble w) 0 p && (eqb (length p) 16 && hold ws ps)
-
-and-left : (a b : Bool) → T (a && b) → T a
-and-left true b t = tt
-and-left false b t = t
-
-and-right : (a b : Bool) → T (a && b) → T b
-and-right true b t = t
-and-right false b t = absurd t
 
 looks : (ws : List ℕ) (ps : List (List ℕ)) → T (hold ws ps) → (x : ℕ) → looked ws x ≡ substituted ps x
 unfolding substituted

@@ -1,14 +1,15 @@
--- The turns of the loop that looks at digits and fillers. Assumes nothing.
+-- The turns of the loop that looks at digits and fillers; hexadecimal digits. Assumes nothing.
 use Prim.Native.Nat.{ℕ, zero, suc, _+_, _-_, _≤_, _<_}
 use native.Mathlib.Numerals.{add-one, sub-one}
 use mathlib.Core.Path.{_≡_, refl, sym, ap, _∙_}
-use mathlib.Core.Bool.{Bool, true, false}
+use mathlib.Core.Bool.{false}
 use mathlib.Core.List.{List, [], _∷_}
-use lib.ListN.{length, getD, drop, drop-of-length-le}
+use lib.ListN.{length, getD, drop, replicate, drop-of-length-le}
 use lib.Seq.{drop-cons}
-use lib.Dec.{eqb, eqb·suc-zero}
+use lib.Dec.{eqb, eqb·suc-zero, eqb→eq}
 use borrow.Author.Tests.{eq-eqb, ne-eqb, le-leb, lt-leb}
-use Rattle.octets.specs.Digits.{digits}
+use Rattle.octets.specs.Digits.{digits, hexDigit, hexValue}
+use Rattle.octets.proofs.Table.{at}
 
 step-high : (f k x : ℕ) (t : List ℕ) → (k ≡ 0 → ⊥) → 9 < x → digits f k (x ∷ t) ≡ false
 unfolding digits
@@ -43,3 +44,9 @@ end-of f (suc k) = sym (eqb·suc-zero k)
 
 pub digits-end : (f n : ℕ) (s : List ℕ) (k i : ℕ) → length s ≤ i → digits f n s ≡ digits f k (drop i s) → eqb k 0 ≡ digits f n s
 digits-end f n s k i p w = sym (w ∙ ap (digits f k) (drop-of-length-le s {i = i} p) ∙ end-of f k)
+
+-- a digit that was written is read back
+pub hexValue-hexDigit : (n : ℕ) → n < 16 → hexValue (hexDigit n) ≡ n
+unfolding hexValue hexDigit
+hexValue-hexDigit n h =
+    eqb→eq (hexValue (hexDigit n)) n (at (λ k x. eqb (hexValue (hexDigit k)) k) (replicate 16 0) tt n h)

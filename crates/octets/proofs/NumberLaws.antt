@@ -1,10 +1,10 @@
 -- Numbers and their octets undo each other, at every width. Assumes nothing.
 use mathlib.Core.Path.{_≡_, refl, sym, ap, ap₂, _∙_, subst}
-use Prim.Native.Nat.{ℕ, zero, suc, _+_, _*_, _/_, _%_, _^_, _≤_, _<_}
-use mathlib.Core.List.{List, [], _∷_, _++_, reverse, reverse-reverse}
+use Prim.Native.Nat.{ℕ, zero, suc, _+_, _*_, _/_, _%_, _^_, _<_}
+use mathlib.Core.List.{List, [], _∷_, reverse, reverse-reverse}
 use native.Mathlib.Nat.{zero-lt-suc, pow-zero, pow-succ'}
 use native.Mathlib.Omega.{arith}
-use lib.ListN.{length, getD, length-reverse}
+use lib.ListN.{length, length-reverse}
 use Rattle.octets.specs.Numbers.{Octets, le, leOctets, be, beOctets}
 use Rattle.octets.proofs.Parts.{octets-reverse}
 

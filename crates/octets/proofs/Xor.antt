@@ -1,10 +1,9 @@
 -- Laws of xor and or that the kit lacks. Assumes nothing.
 use mathlib.Core.Path.{_≡_, refl, sym, ap, ap₂, _∙_}
-use Prim.Native.Nat.{ℕ, zero, suc, _+_, _*_, _/_, _%_, _≤_, _<_}
-use native.Mathlib.Nat.{mod-lt}
+use Prim.Native.Nat.{ℕ, zero, suc, _+_, _*_, _/_, _%_, _<_}
 use native.Mathlib.Omega.{arith}
 use lib.Arith.{bin-ind, digits-mod}
-use lib.Bits.{bitAnd, bitOr, bitXor, differ, xor-step, xor-shr, xor-self, xor-zero-r, xor-add-and, or-add-and, and-le-l, and-le-r}
+use lib.Bits.{bitOr, bitXor, differ, xor-step, xor-shr, xor-self, xor-zero-r, xor-add-and, or-add-and, and-le-l, and-le-r}
 use lib.Dec.{lit<}
 
 differ-lt : (x y : ℕ) → x < 2 → y < 2 → differ x y < 2

@@ -4,7 +4,7 @@ ghost use mathlib.Core.List.{[], _∷_};
 ghost use Prim.Native.Nat.{_%_};
 ghost use Rattle.octets.specs.Numbers.{le, leOctets};
 ghost use Rattle.octets.specs.Same.{same as alike};
-ghost use Rattle.octets.specs.Digits.{digits as areDigits, hexDigit, hexOctet};
+ghost use Rattle.octets.specs.Digits.{digits as areDigits, hexDigit, hexOctet, hexValue};
 
 // The word of four octets, least significant first.
 pub fn word(b0: u8, b1: u8, b2: u8, b3: u8) -> u32
@@ -80,4 +80,23 @@ pub fn hex(b: u8) -> [u8; 2]
     ensures { λ r. ⌜ r ≡ hexOctet b ⌝ }
 {
     [hex_digit(b / 16), hex_digit(b)]
+}
+
+// The number that a hexadecimal digit stands for; 16 for any other sign.
+pub fn hex_value(x: u8) -> u8
+    ensures { λ r. ⌜ r ≡ hexValue x ⌝ }
+{
+    if x <= 47 {
+        return 16;
+    }
+    if x <= 57 {
+        return x - 48;
+    }
+    if x <= 96 {
+        return 16;
+    }
+    if x <= 102 {
+        return x - 87;
+    }
+    16
 }

@@ -1,16 +1,16 @@
-use mathlib.Core.Path.{_≡_, refl, sym, ap, _∙_}
+use mathlib.Core.Path.{_≡_, sym, ap, _∙_}
 use Prim.Native.Nat.{ℕ, _+_, _-_, _*_, _/_, _≤_}
 use native.Mathlib.Nat.{sub-zero}
 use native.Mathlib.Omega.{arith}
 use borrow.Author.Needs.{needs}
 use denote.Ref.{now}
 use lib.Dec.{lit<}
-use lib.ListN.{length, take, drop}
+use lib.ListN.{length, drop}
 use mathlib.Core.List.{_++_}
 use Rattle.blocks.specs.Blocks.{taken, absorbed}
 use Rattle.blocks.proofs.Laws.{taken-turn, taken-none}
 use Rattle.cipher.specs.declared.Halves.{Halves}
-use Rattle.cipher.specs.Gost.{rounds, halves}
+use Rattle.cipher.specs.Gost.{rounds}
 use Rattle.cipher.specs.Code.{added, step}
 use Rattle.cipher.proofs.absorb_all.Statement.{statement}
 use Rattle.cipher.proofs.absorb_all.Tie as tie

@@ -1,9 +1,9 @@
 use mathlib.Core.Path.{_≡_, refl, sym, ap, _∙_}
-use Prim.Native.Nat.{ℕ, _+_, _-_, _≤_, _<_}
+use Prim.Native.Nat.{ℕ, _+_, _-_, _≤_}
 use mathlib.Core.List.{List}
 use native.Mathlib.Omega.{arith}
 use borrow.Author.Needs.{needs}
-use lib.ListN.{drop, getD, drop-of-length-le}
+use lib.ListN.{drop, drop-of-length-le}
 use lib.Bits.{bitXor}
 use Rattle.cipher.specs.Gost.{rounds, round}
 use Rattle.cipher.proofs.Rounds.{rounds-turn}

@@ -1,5 +1,4 @@
 use mathlib.Core.Path.{_≡_}
-use native.Mathlib.Omega.{arith}
 use lib.ListN.{take}
 use lib.Seq.{take-all}
 use Rattle.cipher.specs.Gost.{through, exchanged, halves}

@@ -1,6 +1,5 @@
 use denote.Ref.{now}
-use mathlib.Core.Path.{_≡_, refl, sym, ap, _∙_}
-use Prim.Native.Nat.{ℕ}
+use mathlib.Core.Path.{refl, sym, ap, _∙_}
 use native.Mathlib.Nat.{add-zero}
 use Rattle.octets.specs.Numbers.{le}
 use Rattle.octets.proofs.Parts.{elements-part}

@@ -67,7 +67,7 @@ fn halves(s: Halves, published: &[u8]) {
 }
 
 // The code of a string under both readings.
-pub fn code(key: &[u8], string: &[u8], published: &[u8]) {
+pub(crate) fn code(key: &[u8], string: &[u8], published: &[u8]) {
     let start = Halves { n1: 0, n2: 0 };
     io::write_all(STDOUT_FILENO, b"\n least significant octet first");
     halves(
@@ -88,7 +88,7 @@ pub fn code(key: &[u8], string: &[u8], published: &[u8]) {
 }
 
 // An IDN under both readings: as many octets of the enciphered counter as are published.
-pub fn idn(key: &[u8], counter: &[u8], published: &[u8]) {
+pub(crate) fn idn(key: &[u8], counter: &[u8], published: &[u8]) {
     if counter.len() != 2 {
         return;
     }

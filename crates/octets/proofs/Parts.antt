@@ -3,28 +3,32 @@ use mathlib.Core.Path.{_≡_, refl, sym, ap, _∙_, subst}
 use Prim.Native.Nat.{ℕ, zero, suc, _+_, _≤_, _<_}
 use mathlib.Core.List.{List, [], _∷_, _++_, reverse, reverse-cons}
 use native.Mathlib.Omega.{arith}
-use native.Mathlib.Nat.{zero-lt-suc}
+use native.Mathlib.Nat.{zero-lt-suc, add-zero}
 use lib.ListN.{length, take, drop, getD}
 use lib.Seq.{drop-cons, take-all, getD-drop}
 use Rattle.octets.specs.Numbers.{Octets}
 
--- the n elements from place i on
-abbrev pub elements : List ℕ → ℕ → ℕ → List ℕ
-elements s i zero = []
-elements s i (suc n) = getD s i 0 ∷ elements s (i + 1) n
+-- the n elements from place i + j on
+abbrev pub elements : List ℕ → ℕ → ℕ → ℕ → List ℕ
+elements s i j zero = []
+elements s i j (suc n) = getD s (i + j) 0 ∷ elements s i (suc j) n
 
-pub elements-part : (s : List ℕ) (i n : ℕ) → i + n ≤ length s → take n (drop i s) ≡ elements s i n
-elements-part s i zero h = refl
-elements-part s i (suc n) h =
-    let l : i < length s = omega arith in
-    let e : suc i ≡ i + 1 = omega arith in
-    ap (take (suc n)) (drop-cons s i 0 l)
-    ∙ ap (λ (k : ℕ). getD s i 0 ∷ take n (drop k s)) e
-    ∙ ap (λ (t : List ℕ). getD s i 0 ∷ t) (elements-part s (i + 1) n (omega arith))
+from : (s : List ℕ) (i j n : ℕ) → i + j + n ≤ length s → take n (drop (i + j) s) ≡ elements s i j n
+from s i j zero h = refl
+from s i j (suc n) h =
+    let l : i + j < length s = omega arith in
+    let e : suc (i + j) ≡ i + suc j = omega arith in
+    ap (take (suc n)) (drop-cons s (i + j) 0 l)
+    ∙ ap (λ (k : ℕ). getD s (i + j) 0 ∷ take n (drop k s)) e
+    ∙ ap (λ (t : List ℕ). getD s (i + j) 0 ∷ t) (from s i (suc j) n (omega arith))
+
+-- a part, element by element
+pub elements-part : (s : List ℕ) (i n : ℕ) → i + n ≤ length s → take n (drop i s) ≡ elements s i 0 n
+elements-part s i n h = ap (λ (k : ℕ). take n (drop k s)) (sym (add-zero i)) ∙ from s i 0 n (omega arith)
 
 -- a list of a known length, element by element
-pub elements-all : (s : List ℕ) (n : ℕ) → length s ≡ n → elements s 0 n ≡ s
-elements-all s n e = sym (elements-part s 0 n (omega arith)) ∙ take-all n s (omega arith)
+pub elements-all : (s : List ℕ) (n : ℕ) → length s ≡ n → s ≡ elements s 0 0 n
+elements-all s n e = sym (take-all n s (omega arith)) ∙ elements-part s 0 n (omega arith)
 
 -- parts of a string are strings
 pub octets-take : (n : ℕ) (s : List ℕ) → Octets s → Octets (take n s)

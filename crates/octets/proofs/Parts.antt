@@ -1,11 +1,12 @@
 -- Parts of a list whose elements are named one by one. Assumes nothing.
-use mathlib.Core.Path.{_≡_, refl, sym, ap, _∙_, subst}
+use mathlib.Core.Path.{_≡_, refl, sym, ap, ap₂, _∙_, subst}
 use Prim.Native.Nat.{ℕ, zero, suc, _+_, _≤_, _<_}
-use mathlib.Core.List.{List, [], _∷_, _++_, reverse, reverse-cons}
+use mathlib.Core.List.{List, [], _∷_, _++_, reverse, reverse-cons, append-nil}
 use native.Mathlib.Omega.{arith}
-use native.Mathlib.Nat.{zero-lt-suc, add-zero}
-use lib.ListN.{length, take, drop, getD}
-use lib.Seq.{drop-cons, take-all, getD-drop}
+use native.Mathlib.Nat.{zero-lt-suc, add-zero, zero-add}
+use native.Mathlib.Numerals.{add-one}
+use lib.ListN.{length, take, drop, getD, set, drop-of-length-le}
+use lib.Seq.{drop-cons, take-all, getD-drop, paste, paste-suc}
 use Rattle.octets.specs.Numbers.{Octets}
 
 -- the n elements from place i + j on
@@ -29,6 +30,19 @@ elements-part s i n h = ap (λ (k : ℕ). take n (drop k s)) (sym (add-zero i)) 
 -- a list of a known length, element by element
 pub elements-all : (s : List ℕ) (n : ℕ) → length s ≡ n → s ≡ elements s 0 0 n
 elements-all s n e = sym (take-all n s (omega arith)) ∙ elements-part s 0 n (omega arith)
+
+-- a loop that makes the list s in the array d, at element i, and when all is made
+pub made-turn : (d s : List ℕ) (i x : ℕ) → i < length d → i < length s → x ≡ getD s i 0
+    → set (paste d 0 s i) i x ≡ paste d 0 s (i + 1)
+made-turn d s i x hd hs e =
+    ap₂ (λ (k v : ℕ). set (paste d 0 s i) k v) (sym (zero-add i)) e
+    ∙ paste-suc d 0 s i 0 (omega arith) hs
+    ∙ ap (paste d 0 s) (sym (add-one i))
+
+pub made-end : (d s : List ℕ) (n : ℕ) → length d ≡ n → length s ≡ n → paste d 0 s n ≡ s
+made-end d s n hd hs =
+    ap₂ (λ (x y : List ℕ). x ++ y) (take-all n s (omega arith)) (drop-of-length-le d {i = 0 + n} (omega arith))
+    ∙ append-nil s
 
 -- parts of a string are strings
 pub octets-take : (n : ℕ) (s : List ℕ) → Octets s → Octets (take n s)

@@ -1,13 +1,20 @@
 -- Parts of a list whose elements are named one by one. Assumes nothing.
 use mathlib.Core.Path.{_≡_, refl, sym, ap, ap₂, _∙_, subst}
 use Prim.Native.Nat.{ℕ, zero, suc, _+_, _≤_, _<_}
-use mathlib.Core.List.{List, [], _∷_, _++_, reverse, reverse-cons, append-nil}
+use mathlib.Core.List.{List, [], _∷_, _++_, map, reverse, reverse-cons, append-nil}
 use native.Mathlib.Omega.{arith}
-use native.Mathlib.Nat.{zero-lt-suc, add-zero, zero-add}
+use native.Mathlib.Nat.{zero-lt-suc, add-zero, zero-add, not-suc-le-zero, le-of-suc-le-suc}
 use native.Mathlib.Numerals.{add-one}
+use mathlib.Core.Bool.{Bool, true, false, _&&_}
+use lib.Dec.{T, ltb, ltb→lt}
+use lib.Pow.{areBytes}
 use lib.ListN.{length, take, drop, getD, set, drop-of-length-le}
 use lib.Seq.{drop-cons, take-all, getD-drop, paste, paste-suc}
 use Rattle.octets.specs.Numbers.{Octets}
+
+and-both : (a b : Bool) → T (a && b) → T a × T b
+and-both true b t = (tt, t)
+and-both false b t = absurd t
 
 -- the n elements from place i + j on
 abbrev pub elements : List ℕ → ℕ → ℕ → ℕ → List ℕ
@@ -31,6 +38,11 @@ elements-part s i n h = ap (λ (k : ℕ). take n (drop k s)) (sym (add-zero i)) 
 pub elements-all : (s : List ℕ) (n : ℕ) → length s ≡ n → s ≡ elements s 0 0 n
 elements-all s n e = sym (take-all n s (omega arith)) ∙ elements-part s 0 n (omega arith)
 
+pub getD-map : (f : ℕ → ℕ) (s : List ℕ) (i : ℕ) → i < length s → getD (map f s) i 0 ≡ f (getD s i 0)
+getD-map f [] i h = absurd (not-suc-le-zero h)
+getD-map f (x ∷ s) zero h = refl
+getD-map f (x ∷ s) (suc i) h = getD-map f s i (le-of-suc-le-suc h)
+
 -- a loop that makes the list s in the array d, at element i, and when all is made
 pub made-turn : (d s : List ℕ) (i x : ℕ) → i < length d → i < length s → x ≡ getD s i 0
     → set (paste d 0 s i) i x ≡ paste d 0 s (i + 1)
@@ -43,6 +55,12 @@ pub made-end : (d s : List ℕ) (n : ℕ) → length d ≡ n → length s ≡ n 
 made-end d s n hd hs =
     ap₂ (λ (x y : List ℕ). x ++ y) (take-all n s (omega arith)) (drop-of-length-le d {i = 0 + n} (omega arith))
     ∙ append-nil s
+
+-- a string by a test that antt computes
+pub octets-test : (s : List ℕ) → T (areBytes s) → Octets s
+octets-test [] t i = zero-lt-suc 255
+octets-test (x ∷ s) t zero = ltb→lt x 256 (and-both (ltb x 256) (areBytes s) t .0)
+octets-test (x ∷ s) t (suc i) = octets-test s (and-both (ltb x 256) (areBytes s) t .1) i
 
 -- parts of a string are strings
 pub octets-take : (n : ℕ) (s : List ℕ) → Octets s → Octets (take n s)

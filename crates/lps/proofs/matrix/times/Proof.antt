@@ -1,8 +1,8 @@
 use Prim.Native.Nat.{ℕ, zero, suc, _*_, _^_, _<_}
 use native.Mathlib.Omega.{arith}
 use borrow.Author.Needs.{needs}
-use Rattle.lps.proofs.times.Statement.{statement}
-use Rattle.lps.proofs.times.Tie as tie
+use Rattle.lps.proofs.matrix.times.Statement.{statement}
+use Rattle.lps.proofs.matrix.times.Tie as tie
 
 below : (b r : ℕ) → b < 2 → r < 2 ^ 64 → b * r < 2 ^ 64
 below zero r h k = omega arith

@@ -1,6 +1,6 @@
 -- Parts of a list whose elements are named one by one. Assumes nothing.
 use mathlib.Core.Path.{_≡_, refl, sym, ap, ap₂, _∙_, subst}
-use Prim.Native.Nat.{ℕ, zero, suc, _+_, _≤_, _<_}
+use Prim.Native.Nat.{ℕ, zero, suc, _+_, _-_, _≤_, _<_}
 use mathlib.Core.List.{List, [], _∷_, _++_, map, reverse, reverse-cons, append-nil}
 use native.Mathlib.Omega.{arith}
 use native.Mathlib.Nat.{zero-lt-suc, add-zero, zero-add, not-suc-le-zero, le-of-suc-le-suc}
@@ -8,8 +8,8 @@ use native.Mathlib.Numerals.{add-one}
 use mathlib.Core.Bool.{Bool, true, false, _&&_}
 use lib.Dec.{T, ltb, ltb→lt}
 use lib.Pow.{areBytes}
-use lib.ListN.{length, take, drop, getD, set, drop-of-length-le}
-use lib.Seq.{drop-cons, take-all, getD-drop, paste, paste-suc}
+use lib.ListN.{length, take, drop, getD, set, length-drop, drop-of-length-le}
+use lib.Seq.{drop-cons, take-all, getD-drop, drop-drop, drop-at, take-add, take-take, length-take-le, paste, paste-suc}
 use Rattle.octets.specs.Numbers.{Octets}
 
 and-both : (a b : Bool) → T (a && b) → T a × T b
@@ -33,6 +33,18 @@ from s i j (suc n) h =
 -- a part, element by element
 pub elements-part : (s : List ℕ) (i n : ℕ) → i + n ≤ length s → take n (drop i s) ≡ elements s i 0 n
 elements-part s i n h = ap (λ (k : ℕ). take n (drop k s)) (sym (add-zero i)) ∙ from s i 0 n (omega arith)
+
+-- a part of a part
+pub part-part : (s : List ℕ) (p n i k : ℕ) → p + n ≤ length s → i + k ≤ n → take k (drop i (take n (drop p s))) ≡ take k (drop (p + i) s)
+part-part s p n i k h l =
+    let t : List ℕ = drop p s in
+    let e : n ≡ i + (n - i) = omega arith in
+    let m : i ≤ length t = simp length-drop (omega arith) in
+    ap (λ (j : ℕ). take k (drop i (take j t))) e
+    ∙ ap (λ (r : List ℕ). take k (drop i r)) (take-add i (n - i) t)
+    ∙ ap (take k) (drop-at (take i t) (take (n - i) (drop i t)) i (length-take-le i t m))
+    ∙ take-take k (n - i) (drop i t) (omega arith)
+    ∙ ap (take k) (drop-drop i p s)
 
 -- a list of a known length, element by element
 pub elements-all : (s : List ℕ) (n : ℕ) → length s ≡ n → s ≡ elements s 0 0 n

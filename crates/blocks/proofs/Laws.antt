@@ -4,8 +4,8 @@ use mathlib.Core.Path.{_≡_, refl, sym, ap, ap₂, _∙_}
 use mathlib.Core.Logic.{_⊎_, inl, inr, ⊎-elim}
 use mathlib.Core.Bool.{Bool, true, false}
 use mathlib.Core.List.{List, [], _++_}
-use Prim.Native.Nat.{ℕ, zero, suc, _+_, _-_, _*_, _/_, _<_, _≤_}
-use native.Mathlib.Nat.{div-eq-of-lt, add-mul-div-right, le-refl, add-comm, suc-mul, sub-add-cancel, one-mul, zero-mul, mul-div-cancel}
+use Prim.Native.Nat.{ℕ, zero, suc, _+_, _-_, _*_, _/_, _%_, _<_, _≤_}
+use native.Mathlib.Nat.{div-eq-of-lt, add-mul-div-right, le-refl, add-comm, suc-mul, sub-add-cancel, one-mul, zero-mul, mul-div-cancel, div-add-mod', mod-lt}
 use native.Mathlib.Numerals.{add-one}
 use native.Mathlib.Omega.{arith}
 use borrow.Author.Tests.{ltb-true, ltb-false}
@@ -43,6 +43,14 @@ module _ (size : ℕ) (pos : zero < size) where
       ∙ add-comm ((length m - size) / size * size) size)
       ∙ sym (drop-drop ((length m - size) / size * size) size m)
       ∙ ap (λ (k : ℕ). drop (k / size * size) (drop size m)) (sym (length-drop size m))
+
+  -- what is left is shorter than a block
+  pub tail-short : (m : List ℕ) → length (tail size m) < size
+  unfolding tail
+  tail-short m =
+      let e : length m / size * size + length m % size ≡ length m = div-add-mod' (length m) size in
+      let l : length m % size < size = mod-lt (length m) pos in
+      simp length-drop (omega arith)
 
   -- whole blocks leave nothing
   pub tail-whole : (n : ℕ) (m : List ℕ) → length m ≡ n * size → tail size m ≡ []

@@ -5,9 +5,9 @@ use mathlib.Core.List.{List, [], _∷_, _++_}
 use native.Mathlib.Omega.{arith}
 use lib.ListN.{length, take, drop, length-drop, take-append-drop}
 use lib.Dec.{lit≤}
-use lib.Seq.{drop-drop, take-add, take-all, take-take, length-take-le, drop-at}
+use lib.Seq.{drop-drop, take-all, take-take, length-take-le}
 use Rattle.octets.specs.Numbers.{Octets, le, leOctets}
-use Rattle.octets.proofs.Parts.{octets-take, octets-drop}
+use Rattle.octets.proofs.Parts.{part-part, octets-take, octets-drop}
 use Rattle.octets.proofs.NumberLaws.{le-leOctets, leOctets-le, le-lt}
 use Rattle.cipher.specs.declared.Halves.{Halves}
 use Rattle.cipher.specs.Gost.{halves, block, subkeys}
@@ -30,13 +30,8 @@ length-block s = refl
 pub halves-at : (s : List ℕ) (i : ℕ) → i + 8 ≤ length s → halves (take 8 (drop i s)) ≡ record { n1 = le (take 4 (drop i s)); n2 = le (take 4 (drop (i + 4) s)) }
 unfolding halves
 halves-at s i h =
-    let t = drop i s in
-    let l : 4 ≤ length t = simp length-drop (omega arith) in
-    ap₂ (λ (x y : List ℕ). record { n1 = le x; n2 = le y }) (take-take 4 8 t (lit≤ tt))
-    (ap (λ (x : List ℕ). take 4 (drop 4 x)) (take-add 4 4 t)
-    ∙ ap (take 4) (drop-at (take 4 t) (take 4 (drop 4 t)) 4 (length-take-le 4 t l))
-    ∙ take-take 4 4 (drop 4 t) (lit≤ tt)
-    ∙ ap (take 4) (drop-drop 4 i s))
+    ap₂ (λ (x y : List ℕ). record { n1 = le x; n2 = le y }) (take-take 4 8 (drop i s) (lit≤ tt))
+    (part-part s i 8 4 4 h (lit≤ tt))
 
 -- words are written and read back
 pub halves-block : (s : Halves) → Words s → halves (block s) ≡ s

@@ -4,3 +4,4 @@ pub mod DigitLaws
 pub mod Xor
 pub mod Table
 pub mod Parts
+pub mod Arms

@@ -2,9 +2,10 @@
 use mathlib.Core.Path.{_≡_, refl, sym, ap, ap₂, _∙_, subst}
 use Prim.Native.Nat.{ℕ, zero, suc, _+_, _*_, _/_, _%_, _^_, _<_}
 use mathlib.Core.List.{List, [], _∷_, reverse, reverse-reverse}
-use native.Mathlib.Nat.{zero-lt-suc, pow-zero, pow-succ'}
+use native.Mathlib.Nat.{zero-lt-suc, pow-zero, pow-succ', add-comm, suc-mul}
 use native.Mathlib.Omega.{arith}
-use lib.ListN.{length, length-reverse}
+use lib.ListN.{length, getD, length-reverse}
+use lib.Pow.{shr-shr}
 use Rattle.octets.specs.Numbers.{Octets, le, leOctets, be, beOctets}
 use Rattle.octets.proofs.Parts.{octets-reverse}
 
@@ -18,6 +19,18 @@ unfolding leOctets
 octets-leOctets zero x i = zero-lt-suc 255
 octets-leOctets (suc n) x zero = omega arith
 octets-leOctets (suc n) x (suc i) = octets-leOctets n (x / 256) i
+
+-- octet i of a number
+pub getD-leOctets : (n x i : ℕ) → i < n → getD (leOctets n x) i 0 ≡ x / 2 ^ (i * 8) % 256
+unfolding leOctets
+getD-leOctets zero x i h = absurd (omega arith)
+getD-leOctets (suc n) x zero h = ap (λ (k : ℕ). k % 256) (one x)
+  where
+    one : (k : ℕ) → k ≡ k / 1
+    one k = omega arith
+getD-leOctets (suc n) x (suc i) h =
+    getD-leOctets n (x / 256) i (omega arith)
+    ∙ ap (λ (k : ℕ). k % 256) (shr-shr x 8 (i * 8) ∙ ap (λ (k : ℕ). x / 2 ^ k) (add-comm 8 (i * 8) ∙ sym (suc-mul i 8)))
 
 -- a number that fits n octets is read back
 pub le-leOctets : (n x : ℕ) → x < 256 ^ n → le (leOctets n x) ≡ x

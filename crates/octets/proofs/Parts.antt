@@ -1,12 +1,16 @@
 -- Parts of a list whose elements are named one by one. Assumes nothing.
-use mathlib.Core.Path.{_≡_, refl, sym, ap, _∙_, subst}
-use Prim.Native.Nat.{ℕ, zero, suc, _+_, _≤_, _<_}
-use mathlib.Core.List.{List, [], _∷_, _++_, reverse, reverse-cons}
+use mathlib.Core.Path.{_≡_, refl, sym, ap, ap₂, _∙_, subst}
+use Prim.Native.Nat.{ℕ, zero, suc, _+_, _-_, _≤_, _<_}
+use mathlib.Core.List.{List, [], _∷_, _++_, map, reverse, reverse-cons, append-nil}
 use native.Mathlib.Omega.{arith}
-use native.Mathlib.Nat.{zero-lt-suc, add-zero}
-use lib.ListN.{length, take, drop, getD}
-use lib.Seq.{drop-cons, take-all, getD-drop}
+use native.Mathlib.Nat.{zero-lt-suc, add-zero, zero-add, not-suc-le-zero, le-of-suc-le-suc}
+use native.Mathlib.Numerals.{add-one}
+use lib.Dec.{T, ltb, ltb→lt}
+use lib.Pow.{areBytes}
+use lib.ListN.{length, take, drop, getD, set, length-drop, drop-of-length-le}
+use lib.Seq.{drop-cons, take-all, getD-drop, drop-drop, drop-at, take-add, take-take, length-take-le, paste, paste-suc}
 use Rattle.octets.specs.Numbers.{Octets}
+use Rattle.octets.proofs.Table.{and-left, and-right}
 
 -- the n elements from place i + j on
 abbrev pub elements : List ℕ → ℕ → ℕ → ℕ → List ℕ
@@ -26,9 +30,45 @@ from s i j (suc n) h =
 pub elements-part : (s : List ℕ) (i n : ℕ) → i + n ≤ length s → take n (drop i s) ≡ elements s i 0 n
 elements-part s i n h = ap (λ (k : ℕ). take n (drop k s)) (sym (add-zero i)) ∙ from s i 0 n (omega arith)
 
+-- a part of a part
+pub part-part : (s : List ℕ) (p n i k : ℕ) → p + n ≤ length s → i + k ≤ n → take k (drop i (take n (drop p s))) ≡ take k (drop (p + i) s)
+part-part s p n i k h l =
+    let t : List ℕ = drop p s in
+    let e : n ≡ i + (n - i) = omega arith in
+    let m : i ≤ length t = simp length-drop (omega arith) in
+    ap (λ (j : ℕ). take k (drop i (take j t))) e
+    ∙ ap (λ (r : List ℕ). take k (drop i r)) (take-add i (n - i) t)
+    ∙ ap (take k) (drop-at (take i t) (take (n - i) (drop i t)) i (length-take-le i t m))
+    ∙ take-take k (n - i) (drop i t) (omega arith)
+    ∙ ap (take k) (drop-drop i p s)
+
 -- a list of a known length, element by element
 pub elements-all : (s : List ℕ) (n : ℕ) → length s ≡ n → s ≡ elements s 0 0 n
 elements-all s n e = sym (take-all n s (omega arith)) ∙ elements-part s 0 n (omega arith)
+
+pub getD-map : (f : ℕ → ℕ) (s : List ℕ) (i : ℕ) → i < length s → getD (map f s) i 0 ≡ f (getD s i 0)
+getD-map f [] i h = absurd (not-suc-le-zero h)
+getD-map f (x ∷ s) zero h = refl
+getD-map f (x ∷ s) (suc i) h = getD-map f s i (le-of-suc-le-suc h)
+
+-- a loop that makes the list s in the array d, at element i, and when all is made
+pub made-turn : (d s : List ℕ) (i x : ℕ) → i < length d → i < length s → x ≡ getD s i 0
+    → set (paste d 0 s i) i x ≡ paste d 0 s (i + 1)
+made-turn d s i x hd hs e =
+    ap₂ (λ (k v : ℕ). set (paste d 0 s i) k v) (sym (zero-add i)) e
+    ∙ paste-suc d 0 s i 0 (omega arith) hs
+    ∙ ap (paste d 0 s) (sym (add-one i))
+
+pub made-end : (d s : List ℕ) (n : ℕ) → length d ≡ n → length s ≡ n → paste d 0 s n ≡ s
+made-end d s n hd hs =
+    ap₂ (λ (x y : List ℕ). x ++ y) (take-all n s (omega arith)) (drop-of-length-le d {i = 0 + n} (omega arith))
+    ∙ append-nil s
+
+-- a string by a test that antt computes
+pub octets-test : (s : List ℕ) → T (areBytes s) → Octets s
+octets-test [] t i = zero-lt-suc 255
+octets-test (x ∷ s) t zero = ltb→lt x 256 (and-left (ltb x 256) (areBytes s) t)
+octets-test (x ∷ s) t (suc i) = octets-test s (and-right (ltb x 256) (areBytes s) t) i
 
 -- parts of a string are strings
 pub octets-take : (n : ℕ) (s : List ℕ) → Octets s → Octets (take n s)

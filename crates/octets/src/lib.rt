@@ -2,6 +2,7 @@
 ghost use mathlib.Core.Path.{_≡_};
 ghost use mathlib.Core.List.{[], _∷_};
 ghost use Prim.Native.Nat.{_%_};
+ghost use lib.ListN.{getD};
 ghost use Rattle.octets.specs.Numbers.{le, leOctets};
 ghost use Rattle.octets.specs.Same.{same as alike};
 ghost use Rattle.octets.specs.Digits.{digits as areDigits, hexDigit, hexOctet, hexValue};
@@ -26,6 +27,14 @@ pub fn word_octets(x: u32) -> [u8; 4]
         (x2 % 256) as u8,
         (x3 % 256) as u8,
     ]
+}
+
+// Octet i modulo 8 of a word of 64 bits, least significant first.
+pub fn octet(x: u64, i: usize) -> u8
+    ensures { λ r. ⌜ r ≡ getD (leOctets 8 x) (i % 8) 0 ⌝ }
+{
+    let s = (i % 8 * 8) as u32;
+    ((x >> s) % 256) as u8
 }
 
 // Whether two strings are equal. The time depends on their lengths alone.

@@ -1,0 +1,55 @@
+use mathlib.Core.Path.{_≡_, refl, sym, ap, ap₂, _∙_}
+use Prim.Native.Nat.{_≤_, _-_}
+use native.Mathlib.Omega.{arith}
+use lib.Dec.{lit<}
+use lib.ListN.{length, take, drop, length-drop}
+use lib.Seq.{drop-drop}
+use Rattle.blocks.specs.Blocks.{absorbed}
+use Rattle.blocks.proofs.Laws.{absorbed-step, absorbed-end}
+use Rattle.hash.specs.Hash.{advanced, step}
+use borrow.Author.Needs.{needs}
+use Rattle.hash.proofs.absorb.Statement.{statement}
+use Rattle.hash.proofs.absorb.Tie as tie
+
+abbrev Inv-loop : tie.InvT-loop
+Inv-loop m from core₀ p₀ core p = (p ≤ length m) × (absorbed 64 step core (drop p m) ≡ absorbed 64 step core₀ (drop from m))
+
+abbrev μ-loop : tie.MeasureT-loop
+μ-loop m from core₀ p₀ core p = length m - p
+
+loop-holds : tie.Need-loop-holds Inv-loop μ-loop
+loop-holds c = (omega arith, refl)
+
+loop-again : tie.Need-loop-again Inv-loop μ-loop
+unfolding step
+loop-again c =
+    let l = c .before .before .before .loop in
+    let m = c .before .before .before .before .before .args .m .now in
+    let h : 64 ≤ length (drop (l .p) m) = simp length-drop (omega arith) in
+    let e : c .advance .result ≡ step (l .core) (take 64 (drop (l .p) m)) = c .advance .ensures ∙ ap (advanced (l .core) 512) (c .before .load .ensures) in (
+      omega arith,
+      ap₂ (absorbed 64 step) e (sym (drop-drop 64 (l .p) m))
+          ∙ sym (absorbed-step 64 (lit< tt) step (l .core) (drop (l .p) m) h)
+          ∙ l .inv .1,
+    )
+
+returns : tie.Need-returns Inv-loop μ-loop
+returns c =
+    let l = c .before .loop in
+    let m = c .before .before .before .args .m .now in
+    sym (absorbed-end 64 (lit< tt) step (l .core) (drop (l .p) m) (simp length-drop (omega arith))) ∙ l .inv .1
+
+pub absorb-spec : {M : Type 1} → statement M
+absorb-spec =
+    tie.close
+    (tie.spec
+    Inv-loop
+    μ-loop
+    loop-holds
+    (λ c. search needs)
+    (λ c κs. search needs)
+    (λ c κs. search needs)
+    (λ c. search needs)
+    (λ c. search needs)
+    loop-again
+    returns)

@@ -1,0 +1,30 @@
+use Rattle.lps.specs.Vectors.{X}
+use borrow.Author.Needs.{needs}
+use Rattle.hash.proofs.xor.Statement.{statement}
+use Rattle.hash.proofs.xor.Tie as tie
+
+returns : tie.Need-returns
+unfolding X
+returns c = search needs
+
+pub xor-spec : {M : Type 1} → statement M
+xor-spec =
+    tie.close
+    (tie.spec
+    (λ c. search needs)
+    (λ c. search needs)
+    (λ c. search needs)
+    (λ c. search needs)
+    (λ c. search needs)
+    (λ c. search needs)
+    (λ c. search needs)
+    (λ c. search needs)
+    (λ c. search needs)
+    (λ c. search needs)
+    (λ c. search needs)
+    (λ c. search needs)
+    (λ c. search needs)
+    (λ c. search needs)
+    (λ c. search needs)
+    (λ c. search needs)
+    returns)

@@ -1,0 +1,36 @@
+-- The hash of RFC 6986 (GOST R 34.11-2012), section 9, at 256 bits. The RFC writes a message from its highest byte down; here it is a
+-- list from the lowest byte up, so that its blocks are taken from the front. Assumes nothing.
+use mathlib.Core.List.{List, _∷_, _++_}
+use Prim.Native.Nat.{ℕ, _-_, _*_}
+use lib.ListN.{length, drop, replicate}
+use Rattle.blocks.specs.Blocks.{absorbed, tail}
+use Rattle.lps.specs.Vectors.{words, bytes}
+use Rattle.hash.specs.Sums.{vec, _⊞_}
+use Rattle.hash.specs.Rounds.{g}
+use Rattle.hash.specs.declared.Core.{Core}
+
+-- Stage 1: h = IV, N = 0, Sigma = 0. IV is 64 bytes 01 (section 6.1)
+unfoldable pub start : Core
+start = record { h = words (replicate 64 1); n = vec 0; sigma = vec 0 }
+
+-- h = g_N(h, m), N = N ⊞ n, Sigma = Sigma ⊞ m: a block m, of which n bits are of the message
+unfoldable pub advanced : Core → ℕ → List ℕ → Core
+advanced c n m = record { h = g (c .n) (c .h) m; n = c .n ⊞ vec n; sigma = c .sigma ⊞ m }
+
+-- Stage 2: a whole block
+unfoldable pub step : Core → List ℕ → Core
+step c b = advanced c 512 (words b)
+
+-- Stage 3: the rest t, fewer than 64 bytes, as the block 0 .. 0 1 || t
+unfoldable pub padded : List ℕ → List ℕ
+padded t = t ++ 1 ∷ replicate (63 - length t) 0
+
+-- and then h = g_0(h, N), h = g_0(h, Sigma), and the 256 highest bits of h
+unfoldable pub closed : Core → List ℕ
+closed c = drop 32 (bytes (g (vec 0) (g (vec 0) (c .h) (c .n)) (c .sigma)))
+
+unfoldable pub finished : Core → List ℕ → List ℕ
+finished c t = closed (advanced c (8 * length t) (words (padded t)))
+
+unfoldable pub hash256 : List ℕ → List ℕ
+hash256 m = finished (absorbed 64 step start m) (tail 64 m)

@@ -1,0 +1,289 @@
+// The hash of GOST R 34.11-2012 with 256 bits (RFC 6986), of a message at once or in parts of any length.
+ghost use mathlib.Core.Path.{_≡_};
+ghost use mathlib.Core.List.{[], _∷_};
+ghost use Prim.Native.Nat.{_+_, _*_, _^_, _<_, _≤_};
+ghost use lib.ListN.{length, take, drop};
+ghost use lib.Seq.{paste};
+ghost use Rattle.octets.specs.Numbers.{le};
+ghost use Rattle.blocks.specs.Blocks.{absorbed};
+ghost use Rattle.lps.specs.Vectors.{X, words, bytes};
+ghost use Rattle.hash.specs.Sums.{_⊞_};
+ghost use Rattle.hash.specs.Rounds.{E, g};
+ghost use Rattle.hash.specs.Hash.{advanced, step, padded as paddedTo, closed as closedOf, hash256};
+ghost use Rattle.hash.specs.States.{begun, fed, ended};
+
+mod constants;
+
+use constants::constant;
+use lps::lps;
+use octets::octet;
+
+// What the whole blocks so far have made: h, and the numbers N and Sigma.
+pub struct Core {
+    pub h: [u64; 8],
+    pub n: [u64; 8],
+    pub sigma: [u64; 8],
+}
+
+// A hash under way: the first fill bytes of the buffer are not yet a block.
+pub struct State {
+    pub core: Core,
+    pub buffer: [u8; 64],
+    pub fill: usize,
+}
+
+fn xor(a: [u64; 8], b: [u64; 8]) -> [u64; 8]
+    ensures { λ r. ⌜ r ≡ X a b ⌝ }
+{
+    [
+        a[0] ^ b[0],
+        a[1] ^ b[1],
+        a[2] ^ b[2],
+        a[3] ^ b[3],
+        a[4] ^ b[4],
+        a[5] ^ b[5],
+        a[6] ^ b[6],
+        a[7] ^ b[7],
+    ]
+}
+
+fn encrypt(k: [u64; 8], m: [u64; 8]) -> [u64; 8]
+    ensures { λ r. ⌜ r ≡ E k m ⌝ }
+{
+    let mut key = k;
+    let mut s = m;
+    let mut i = 0;
+    while i < 12 {
+        s = lps(xor(key, s));
+        key = lps(xor(key, constant(i)));
+        i += 1;
+    }
+    xor(key, s)
+}
+
+fn compress(n: [u64; 8], h: [u64; 8], m: [u64; 8]) -> [u64; 8]
+    ensures { λ r. ⌜ r ≡ g n h m ⌝ }
+{
+    xor(xor(encrypt(lps(xor(h, n)), m), h), m)
+}
+
+struct Sum {
+    value: u64,
+    carry: u64,
+}
+
+// x + y + c, as a word and a carry.
+fn add_word(x: u64, y: u64, c: u64) -> Sum
+    requires { ⌜ c ≤ 1 ⌝ }
+    ensures { λ r. ⌜ (r .value + r .carry * 2 ^ 64 ≡ x + y + c) × (r .carry ≤ 1) × (r .value < 2 ^ 64) ⌝ }
+{
+    let s = std::num::wrapping_add_u64(x, y);
+    let v = std::num::wrapping_add_u64(s, c);
+    if s < x {
+        return Sum { value: v, carry: 1 };
+    }
+    if v < s {
+        return Sum { value: v, carry: 1 };
+    }
+    Sum { value: v, carry: 0 }
+}
+
+fn add(a: [u64; 8], b: [u64; 8]) -> [u64; 8]
+    ensures { λ r. ⌜ r ≡ a ⊞ b ⌝ }
+{
+    let mut r = [0; 8];
+    let mut carry = 0;
+    let mut i = 0;
+    while i < 8 {
+        let s = add_word(a[i], b[i], carry);
+        r[i] = s.value;
+        carry = s.carry;
+        i += 1;
+    }
+    r
+}
+
+// The word of eight bytes, lowest first.
+fn word(b0: u8, b1: u8, b2: u8, b3: u8, b4: u8, b5: u8, b6: u8, b7: u8) -> u64
+    ensures { λ r. ⌜ r ≡ le (b0 ∷ b1 ∷ b2 ∷ b3 ∷ b4 ∷ b5 ∷ b6 ∷ b7 ∷ []) ⌝ }
+{
+    let x7 = b7 as u64;
+    let x6 = b6 as u64 + 256 * x7;
+    let x5 = b5 as u64 + 256 * x6;
+    let x4 = b4 as u64 + 256 * x5;
+    let x3 = b3 as u64 + 256 * x4;
+    let x2 = b2 as u64 + 256 * x3;
+    let x1 = b1 as u64 + 256 * x2;
+    b0 as u64 + 256 * x1
+}
+
+fn word_at(m: &[u8], p: usize) -> u64
+    requires { ⌜ p + 8 ≤ length (now m) ⌝ }
+    ensures { λ r. ⌜ r ≡ le (take 8 (drop p (now (m .entry)))) ⌝ }
+{
+    word(
+        m[p],
+        m[p + 1],
+        m[p + 2],
+        m[p + 3],
+        m[p + 4],
+        m[p + 5],
+        m[p + 6],
+        m[p + 7],
+    )
+}
+
+// The block of 64 bytes from p on, as a vector.
+fn load(m: &[u8], p: usize) -> [u64; 8]
+    requires { ⌜ p + 64 ≤ length (now m) ⌝ }
+    ensures { λ r. ⌜ r ≡ words (take 64 (drop p (now (m .entry)))) ⌝ }
+{
+    [
+        word_at(m, p),
+        word_at(m, p + 8),
+        word_at(m, p + 16),
+        word_at(m, p + 24),
+        word_at(m, p + 32),
+        word_at(m, p + 40),
+        word_at(m, p + 48),
+        word_at(m, p + 56),
+    ]
+}
+
+// A block m, of which so many bits are of the message.
+fn advance(c: Core, bits: u64, m: [u64; 8]) -> Core
+    ensures { λ r. ⌜ r ≡ advanced c bits m ⌝ }
+{
+    let h = c.h;
+    let n = c.n;
+    let sigma = c.sigma;
+    let h2 = compress(n, h, m);
+    let n2 = add(n, [bits, 0, 0, 0, 0, 0, 0, 0]);
+    let s2 = add(sigma, m);
+    Core {
+        h: h2,
+        n: n2,
+        sigma: s2,
+    }
+}
+
+// The whole blocks of m from a place on.
+fn absorb(c: Core, m: &[u8], from: usize) -> Core
+    requires { ⌜ from ≤ length (now m) ⌝ }
+    ensures { λ r. ⌜ r ≡ absorbed 64 step c (drop from (now (m .entry))) ⌝ }
+{
+    let mut core = c;
+    let mut p = from;
+    while 64 <= m.len() - p {
+        core = advance(core, 512, load(m, p));
+        p += 64;
+    }
+    core
+}
+
+// b, with the n bytes from a place on replaced by those of m from a place on.
+fn put(b: [u8; 64], at: usize, m: &[u8], from: usize, n: usize) -> [u8; 64]
+    requires { ⌜ (at + n ≤ 64) × (from + n ≤ length (now m)) ⌝ }
+    ensures { λ r. ⌜ r ≡ paste b at (drop from (now (m .entry))) n ⌝ }
+{
+    let mut out = b;
+    let mut i = 0;
+    while i < n {
+        out[at + i] = m[from + i];
+        i += 1;
+    }
+    out
+}
+
+pub fn begin() -> State
+    ensures { λ r. ⌜ r ≡ begun ⌝ }
+{
+    let core = Core {
+        h: [0x0101010101010101; 8],
+        n: [0; 8],
+        sigma: [0; 8],
+    };
+    State {
+        core: core,
+        buffer: [0; 64],
+        fill: 0,
+    }
+}
+
+// One part of the message more, of any length. What the buffer has after the bytes held is cleared.
+pub fn feed(s: State, m: &[u8]) -> State
+    ensures { λ r. ⌜ r ≡ fed s (now (m .entry)) ⌝ }
+{
+    let core = s.core;
+    let buffer = s.buffer;
+    let at = s.fill % 64;
+    let kept = put([0; 64], 0, &buffer, 0, at);
+    let need = 64 - at;
+    if m.len() < need {
+        let b = put(kept, at, m, 0, m.len());
+        return State {
+            core: core,
+            buffer: b,
+            fill: at + m.len(),
+        };
+    }
+    let full = put(kept, at, m, 0, need);
+    let core1 = advance(core, 512, load(&full, 0));
+    let core2 = absorb(core1, m, need);
+    let left = (m.len() - need) % 64;
+    let b = put([0; 64], 0, m, m.len() - left, left);
+    State {
+        core: core2,
+        buffer: b,
+        fill: left,
+    }
+}
+
+// The last block: the first n bytes, a one, and zeros.
+fn padded(b: [u8; 64], n: usize) -> [u8; 64]
+    requires { ⌜ n < 64 ⌝ }
+    ensures { λ r. ⌜ r ≡ paddedTo (take n b) ⌝ }
+{
+    let mut p = put([0; 64], 0, &b, 0, n);
+    p[n] = 1;
+    p
+}
+
+// The 32 highest bytes of a vector.
+fn upper(v: [u64; 8]) -> [u8; 32]
+    ensures { λ r. ⌜ r ≡ drop 32 (bytes v) ⌝ }
+{
+    let mut r = [0; 32];
+    let mut k = 0;
+    while k < 32 {
+        r[k] = octet(v[4 + k / 8], k);
+        k += 1;
+    }
+    r
+}
+
+// The count and the sum taken in, and the upper half.
+fn close(c: Core) -> [u8; 32]
+    ensures { λ r. ⌜ r ≡ closedOf c ⌝ }
+{
+    let h = c.h;
+    let n = c.n;
+    let sigma = c.sigma;
+    upper(compress([0; 8], compress([0; 8], h, n), sigma))
+}
+
+pub fn end(s: State) -> [u8; 32]
+    ensures { λ r. ⌜ r ≡ ended s ⌝ }
+{
+    let core = s.core;
+    let buffer = s.buffer;
+    let at = s.fill % 64;
+    let last = padded(buffer, at);
+    close(advance(core, at as u64 * 8, load(&last, 0)))
+}
+
+pub fn hash(m: &[u8]) -> [u8; 32]
+    ensures { λ r. ⌜ r ≡ hash256 (now (m .entry)) ⌝ }
+{
+    end(feed(begin(), m))
+}

@@ -1,0 +1,4 @@
+pub mod Hmac
+pub mod Derivation
+pub mod Started
+pub mod Answers

@@ -1,13 +1,13 @@
 -- Blocks of a message in the code: read as words, put into a buffer, padded. Assumes nothing.
 use mathlib.Core.Path.{_≡_, refl, sym, ap, ap₂, _∙_}
-use mathlib.Core.List.{List, [], _∷_, _++_, append-nil, append-assoc}
+use mathlib.Core.List.{List, [], _∷_, _++_, append-nil}
 use Prim.Native.Nat.{ℕ, zero, suc, _+_, _-_, _*_, _/_, _%_, _<_, _≤_}
 use native.Mathlib.Nat.{sub-zero, zero-sub, suc-sub-suc}
 use native.Mathlib.Numerals.{add-one}
 use native.Mathlib.Omega.{arith}
-use lib.Dec.{lit<, lit≤}
+use lib.Dec.{lit≤}
 use lib.ListN.{length, take, drop, set, getD, replicate, length-append, length-drop}
-use lib.Seq.{paste, paste-suc, length-take-le, take-length, take-all, set-at, take-append-add, drop-append-add, take-append-seam, drop-drop, getD-drop}
+use lib.Seq.{paste, paste-suc, length-take-le, set-at, drop-append-add, take-append-seam, getD-drop}
 use Rattle.octets.specs.Numbers.{le, leOctets}
 use Rattle.octets.proofs.Parts.{part-part}
 use Rattle.lps.specs.Vectors.{each, words, bytes}

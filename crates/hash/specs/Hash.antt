@@ -1,6 +1,6 @@
 -- The hash of RFC 6986 (GOST R 34.11-2012), section 9, at 256 bits. The RFC writes a message from its highest byte down; here it is a
 -- list from the lowest byte up, so that its blocks are taken from the front. Assumes nothing.
-use mathlib.Core.List.{List, [], _∷_, _++_}
+use mathlib.Core.List.{List, _∷_, _++_}
 use Prim.Native.Nat.{ℕ, _-_, _*_}
 use lib.ListN.{length, drop, replicate}
 use Rattle.blocks.specs.Blocks.{absorbed, tail}

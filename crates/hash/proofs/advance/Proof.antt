@@ -1,7 +1,7 @@
-use mathlib.Core.Path.{_≡_, ap, _∙_}
+use mathlib.Core.Path.{ap, _∙_}
 use mathlib.Core.List.{List}
 use Prim.Native.Nat.{ℕ}
-use Rattle.hash.specs.Sums.{vec, _⊞_}
+use Rattle.hash.specs.Sums.{_⊞_}
 use Rattle.hash.specs.Hash.{advanced}
 use Rattle.hash.proofs.SumLaws.{vec-word}
 use borrow.Author.Needs.{needs}

@@ -2,7 +2,7 @@ use mathlib.Core.Path.{_≡_, refl, ap, _∙_}
 use mathlib.Core.List.{List}
 use Prim.Native.Nat.{ℕ, _-_, _*_, _<_, _≤_}
 use native.Mathlib.Omega.{arith}
-use lib.ListN.{length, getD, set, drop, replicate, length-drop}
+use lib.ListN.{length, set, drop, replicate, length-drop}
 use lib.Seq.{paste, paste-zero}
 use Rattle.octets.proofs.Parts.{made-turn, made-end}
 use Rattle.lps.specs.Vectors.{bytes}

@@ -1,17 +1,24 @@
--- What the crates above need: a state holds what it is made with, parts fed one after the other are fed at once, and a hash that is
--- begun, fed and ended is the hash. Assumes nothing.
+-- What the crates above need: a state holds what it is made with, parts fed one after the other are fed at once, a hash that is
+-- begun, fed and ended is the hash, and a hash is 32 octets. Assumes nothing.
 use mathlib.Core.Path.{_≡_, refl, ap, ap₂, _∙_}
 use mathlib.Core.List.{List, [], _++_, append-assoc}
-use Prim.Native.Nat.{ℕ, _-_, _<_}
+use Prim.Native.Nat.{ℕ, _-_, _*_, _<_}
 use native.Mathlib.Nat.{mod-eq-of-lt}
+use native.Mathlib.Omega.{arith}
 use lib.Dec.{lit<}
-use lib.ListN.{length, take, replicate}
+use lib.ListN.{length, take, drop, replicate, length-drop}
 use lib.Seq.{take-append-seam}
 use Rattle.blocks.specs.Blocks.{absorbed, tail}
 use Rattle.blocks.proofs.Laws.{joined, tail-short}
+use Rattle.octets.specs.Numbers.{Octets}
+use Rattle.octets.proofs.Parts.{octets-drop}
+use Rattle.lps.specs.Vectors.{X, words, bytes}
+use Rattle.lps.proofs.Bytes.{length-bytes, octets-bytes}
 use Rattle.hash.specs.declared.Core.{Core}
 use Rattle.hash.specs.declared.State.{State}
-use Rattle.hash.specs.Hash.{start, step, finished, hash256}
+use Rattle.hash.specs.Sums.{vec}
+use Rattle.hash.specs.Rounds.{g}
+use Rattle.hash.specs.Hash.{start, step, advanced, padded, closed, finished, hash256}
 use Rattle.hash.specs.States.{filled, stateOf, held, begun, fed, ended}
 
 pub held-stateOf : (c : Core) (t : List ℕ) → length t < 64 → held (stateOf c t) ≡ t
@@ -43,3 +50,37 @@ ended-fed m =
     (held-stateOf (absorbed 64 step (stateOf start [] .core) b) (tail 64 b) (tail-short 64 (lit< tt) b))
     ∙ ap₂ (λ (c : Core) (t : List ℕ). finished (absorbed 64 step c (t ++ m)) (tail 64 (t ++ m)))
     (core-stateOf start []) (held-stateOf start [] (lit< tt))
+
+length-g : (n h m : List ℕ) → length (g n h m) ≡ 8
+unfolding g X
+length-g n h m = refl
+
+-- the vector whose upper half is the hash
+abbrev whole : Core → List ℕ
+whole c = g (vec 0) (g (vec 0) (c .h) (c .n)) (c .sigma)
+
+length-closed : (c : Core) → length (closed c) ≡ 32
+unfolding closed
+length-closed c =
+    let n : length (bytes (whole c)) ≡ length (whole c) * 8 = length-bytes (whole c) in
+    length-drop 32 (bytes (whole c)) ∙ omega (arith, length-g (vec 0) (g (vec 0) (c .h) (c .n)) (c .sigma))
+
+octets-closed : (c : Core) → Octets (closed c)
+unfolding closed
+octets-closed c = octets-drop 32 (bytes (whole c)) (octets-bytes (whole c))
+
+pub length-finished : (c : Core) (t : List ℕ) → length (finished c t) ≡ 32
+unfolding finished
+length-finished c t = length-closed (advanced c (8 * length t) (words (padded t)))
+
+pub octets-finished : (c : Core) (t : List ℕ) → Octets (finished c t)
+unfolding finished
+octets-finished c t = octets-closed (advanced c (8 * length t) (words (padded t)))
+
+pub length-hash256 : (m : List ℕ) → length (hash256 m) ≡ 32
+unfolding hash256
+length-hash256 m = length-finished (absorbed 64 step start m) (tail 64 m)
+
+pub octets-hash256 : (m : List ℕ) → Octets (hash256 m)
+unfolding hash256
+octets-hash256 m = octets-finished (absorbed 64 step start m) (tail 64 m)

@@ -29,8 +29,10 @@ padded t = t ++ 1 ∷ replicate (63 - length t) 0
 unfoldable pub closed : Core → List ℕ
 closed c = drop 32 (bytes (g (vec 0) (g (vec 0) (c .h) (c .n)) (c .sigma)))
 
+-- Stage 3 whole
 unfoldable pub finished : Core → List ℕ → List ℕ
 finished c t = closed (advanced c (8 * length t) (words (padded t)))
 
+-- Stages 1, 2 and 3
 unfoldable pub hash256 : List ℕ → List ℕ
 hash256 m = finished (absorbed 64 step start m) (tail 64 m)

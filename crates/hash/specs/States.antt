@@ -19,11 +19,14 @@ stateOf c t = record { core = c; buffer = filled t; fill = length t }
 unfoldable pub held : State → List ℕ
 held s = take (s .fill % 64) (s .buffer)
 
+-- no bytes so far
 unfoldable pub begun : State
 begun = stateOf start []
 
+-- the bytes held and m: the whole blocks absorbed, and the rest held
 unfoldable pub fed : State → List ℕ → State
 fed s m = stateOf (absorbed 64 step (s .core) (held s ++ m)) (tail 64 (held s ++ m))
 
+-- the hash of all the bytes so far
 unfoldable pub ended : State → List ℕ
 ended s = finished (s .core) (held s)

@@ -1,11 +1,5 @@
 // The iteration constants (RFC 6986, section 6.5), each as its eight words, lowest first.
-ghost use mathlib.Core.Path.{_≡_};
-ghost use Prim.Native.Nat.{_<_};
-ghost use lib.ListN.{getD};
-ghost use Rattle.hash.specs.Constants.{C};
-ghost use Rattle.hash.specs.Sums.{vec};
-
-const C1: [u64; 8] = [
+pub const C1: [u64; 8] = [
     0xdd806559f2a64507,
     0x05767436cc744d23,
     0xa2422a08a460d315,
@@ -16,7 +10,7 @@ const C1: [u64; 8] = [
     0xb1085bda1ecadae9,
 ];
 
-const C2: [u64; 8] = [
+pub const C2: [u64; 8] = [
     0xe679047021b19bb7,
     0x55dda21bd7cbcd56,
     0x5cb561c2db0aa7ca,
@@ -27,7 +21,7 @@ const C2: [u64; 8] = [
     0x6fa3b58aa99d2f1a,
 ];
 
-const C3: [u64; 8] = [
+pub const C3: [u64; 8] = [
     0x991e96f50aba0ab2,
     0xc2b6f443867adb31,
     0xc1c93a376062db09,
@@ -38,7 +32,7 @@ const C3: [u64; 8] = [
     0xf574dcac2bce2fc7,
 ];
 
-const C4: [u64; 8] = [
+pub const C4: [u64; 8] = [
     0x220cbebc84e3d12e,
     0x3453eaa193e837f1,
     0xd8b71333935203be,
@@ -49,7 +43,7 @@ const C4: [u64; 8] = [
     0xef1fdfb3e81566d2,
 ];
 
-const C5: [u64; 8] = [
+pub const C5: [u64; 8] = [
     0x601758fd7c6cfe57,
     0x7a56a27ea9ea63f5,
     0xdfff00b723271a16,
@@ -60,7 +54,7 @@ const C5: [u64; 8] = [
     0x4bea6bacad474799,
 ];
 
-const C6: [u64; 8] = [
+pub const C6: [u64; 8] = [
     0xfa68407a46647d6e,
     0xbf71c57236904f35,
     0x0af21f66c2bec6b6,
@@ -71,7 +65,7 @@ const C6: [u64; 8] = [
     0xae4faeae1d3ad3d9,
 ];
 
-const C7: [u64; 8] = [
+pub const C7: [u64; 8] = [
     0x8886564d3a14d493,
     0x3517454ca23c4af3,
     0x06476983284a0504,
@@ -82,7 +76,7 @@ const C7: [u64; 8] = [
     0xf4c70e16eeaac5ec,
 ];
 
-const C8: [u64; 8] = [
+pub const C8: [u64; 8] = [
     0xa47f0dd4bf02e71e,
     0x36acc2355951a8d9,
     0x69d18d2bd1a5c42f,
@@ -93,7 +87,7 @@ const C8: [u64; 8] = [
     0x9b1f5b424d93c9a7,
 ];
 
-const C9: [u64; 8] = [
+pub const C9: [u64; 8] = [
     0x7261445183235adb,
     0x0e38dc92cb1f2a60,
     0x7b2b8a9aa6079c54,
@@ -104,7 +98,7 @@ const C9: [u64; 8] = [
     0x378f5a541631229b,
 ];
 
-const C10: [u64; 8] = [
+pub const C10: [u64; 8] = [
     0x74b4c7fb98459ced,
     0x3698fad1153bb6c3,
     0x7a1e6c303b7652f4,
@@ -115,7 +109,7 @@ const C10: [u64; 8] = [
     0xabbedea680056f52,
 ];
 
-const C11: [u64; 8] = [
+pub const C11: [u64; 8] = [
     0x6bcaa4cd81f32d1b,
     0xdea2594ac06fd85d,
     0xefbacd1d7d476e98,
@@ -126,7 +120,7 @@ const C11: [u64; 8] = [
     0x7bcd9ed0efc889fb,
 ];
 
-const C12: [u64; 8] = [
+pub const C12: [u64; 8] = [
     0x48bc924af11bd720,
     0xfaf417d5d9b21b99,
     0xe71da4aa88e12852,
@@ -136,24 +130,3 @@ const C12: [u64; 8] = [
     0xd21380b00449b17a,
     0x378ee767f11631ba,
 ];
-
-// The constant C_(i+1).
-pub fn constant(i: usize) -> [u64; 8]
-    requires { ⌜ i < 12 ⌝ }
-    ensures { λ r. ⌜ r ≡ vec (getD C i 0) ⌝ }
-{
-    match i {
-        0 => C1,
-        1 => C2,
-        2 => C3,
-        3 => C4,
-        4 => C5,
-        5 => C6,
-        6 => C7,
-        7 => C8,
-        8 => C9,
-        9 => C10,
-        10 => C11,
-        _ => C12,
-    }
-}

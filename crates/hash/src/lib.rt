@@ -2,19 +2,19 @@
 ghost use mathlib.Core.Path.{_≡_};
 ghost use mathlib.Core.List.{[], _∷_};
 ghost use Prim.Native.Nat.{_+_, _*_, _^_, _<_, _≤_};
-ghost use lib.ListN.{length, take, drop};
+ghost use lib.ListN.{getD, length, take, drop};
 ghost use lib.Seq.{paste};
 ghost use Rattle.octets.specs.Numbers.{le};
 ghost use Rattle.blocks.specs.Blocks.{absorbed};
 ghost use Rattle.lps.specs.Vectors.{X, words, bytes};
-ghost use Rattle.hash.specs.Sums.{_⊞_};
+ghost use Rattle.hash.specs.Constants.{C};
+ghost use Rattle.hash.specs.Sums.{vec, _⊞_};
 ghost use Rattle.hash.specs.Rounds.{E, g};
 ghost use Rattle.hash.specs.Hash.{advanced, step, padded as paddedTo, closed as closedOf, hash256};
 ghost use Rattle.hash.specs.States.{begun, fed, ended};
 
 mod constants;
 
-use constants::constant;
 use lps::lps;
 use octets::octet;
 
@@ -32,6 +32,7 @@ pub struct State {
     pub fill: usize,
 }
 
+// X[a](b).
 fn xor(a: [u64; 8], b: [u64; 8]) -> [u64; 8]
     ensures { λ r. ⌜ r ≡ X a b ⌝ }
 {
@@ -47,6 +48,28 @@ fn xor(a: [u64; 8], b: [u64; 8]) -> [u64; 8]
     ]
 }
 
+// The constant C_(i+1).
+fn constant(i: usize) -> [u64; 8]
+    requires { ⌜ i < 12 ⌝ }
+    ensures { λ r. ⌜ r ≡ vec (getD C i 0) ⌝ }
+{
+    match i {
+        0 => constants::C1,
+        1 => constants::C2,
+        2 => constants::C3,
+        3 => constants::C4,
+        4 => constants::C5,
+        5 => constants::C6,
+        6 => constants::C7,
+        7 => constants::C8,
+        8 => constants::C9,
+        9 => constants::C10,
+        10 => constants::C11,
+        _ => constants::C12,
+    }
+}
+
+// E(k, m): twelve rounds, the key schedule beside them.
 fn encrypt(k: [u64; 8], m: [u64; 8]) -> [u64; 8]
     ensures { λ r. ⌜ r ≡ E k m ⌝ }
 {
@@ -61,6 +84,7 @@ fn encrypt(k: [u64; 8], m: [u64; 8]) -> [u64; 8]
     xor(key, s)
 }
 
+// g_n(h, m).
 fn compress(n: [u64; 8], h: [u64; 8], m: [u64; 8]) -> [u64; 8]
     ensures { λ r. ⌜ r ≡ g n h m ⌝ }
 {
@@ -88,6 +112,7 @@ fn add_word(x: u64, y: u64, c: u64) -> Sum
     Sum { value: v, carry: 0 }
 }
 
+// a ⊞ b.
 fn add(a: [u64; 8], b: [u64; 8]) -> [u64; 8]
     ensures { λ r. ⌜ r ≡ a ⊞ b ⌝ }
 {
@@ -117,6 +142,7 @@ fn word(b0: u8, b1: u8, b2: u8, b3: u8, b4: u8, b5: u8, b6: u8, b7: u8) -> u64
     b0 as u64 + 256 * x1
 }
 
+// The word of eight bytes from p on.
 fn word_at(m: &[u8], p: usize) -> u64
     requires { ⌜ p + 8 ≤ length (now m) ⌝ }
     ensures { λ r. ⌜ r ≡ le (take 8 (drop p (now (m .entry)))) ⌝ }
@@ -195,6 +221,7 @@ fn put(b: [u8; 64], at: usize, m: &[u8], from: usize, n: usize) -> [u8; 64]
     out
 }
 
+// A hash of no bytes so far.
 pub fn begin() -> State
     ensures { λ r. ⌜ r ≡ begun ⌝ }
 {
@@ -272,6 +299,7 @@ fn close(c: Core) -> [u8; 32]
     upper(compress([0; 8], compress([0; 8], h, n), sigma))
 }
 
+// The hash of all the bytes fed.
 pub fn end(s: State) -> [u8; 32]
     ensures { λ r. ⌜ r ≡ ended s ⌝ }
 {
@@ -282,6 +310,7 @@ pub fn end(s: State) -> [u8; 32]
     close(advance(core, at as u64 * 8, load(&last, 0)))
 }
 
+// The hash of a message at once.
 pub fn hash(m: &[u8]) -> [u8; 32]
     ensures { λ r. ⌜ r ≡ hash256 (now (m .entry)) ⌝ }
 {

@@ -4,12 +4,12 @@ use mathlib.Core.Bool.{Bool}
 use mathlib.Core.List.{List, [], _∷_, _++_}
 use Prim.Native.Nat.{ℕ, zero, suc, _+_, _*_, _/_, _%_, _<_}
 use native.Mathlib.Omega.{arith}
-use lib.Dec.{eqb, eqb→eq}
+use lib.Dec.{eqb, eqb→eq, lit<}
 use lib.ListN.{length, getD, take, drop, length-append, length-drop, length-map, List·getD-append}
 use lib.Seq.{getD-append-add, getD-take, getD-drop, length-take-le}
 use Rattle.octets.specs.Numbers.{Octets, le, leOctets}
-use Rattle.octets.proofs.NumberLaws.{leOctets-le, length-leOctets}
-use Rattle.octets.proofs.Parts.{getD-map, octets-test, octets-take, octets-drop}
+use Rattle.octets.proofs.NumberLaws.{leOctets-le, length-leOctets, octets-leOctets}
+use Rattle.octets.proofs.Parts.{getD-map, octets-test, octets-take, octets-drop, octets-append}
 use Rattle.octets.proofs.Table.{at}
 use Rattle.lps.specs.Tables.{pi, tau}
 use Rattle.lps.specs.Vectors.{bytes, S, P}
@@ -20,6 +20,11 @@ length-bytes [] = refl
 length-bytes (w ∷ v) =
     let e : length (bytes v) ≡ length v * 8 = length-bytes v in
     length-append (leOctets 8 w) (bytes v) ∙ omega (arith, length-leOctets 8 w)
+
+pub octets-bytes : (v : List ℕ) → Octets (bytes v)
+unfolding bytes
+octets-bytes [] = λ i. lit< tt
+octets-bytes (w ∷ v) = octets-append (leOctets 8 w) (bytes v) (octets-leOctets 8 w) (octets-bytes v)
 
 -- byte i of word j
 pub bytes-at : (v : List ℕ) (j i : ℕ) → j < length v → i < 8 → getD (bytes v) (j * 8 + i) 0 ≡ getD (leOctets 8 (getD v j 0)) i 0

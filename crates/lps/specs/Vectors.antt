@@ -7,7 +7,7 @@ use lib.ListN.{getD, take, drop}
 use Rattle.octets.specs.Numbers.{le, leOctets}
 use Rattle.lps.specs.Tables.{pi, tau, A}
 
--- the eight of them
+-- f(0) to f(7), the lowest first
 abbrev pub each : (ℕ → ℕ) → List ℕ
 each f = f 0 ∷ f 1 ∷ f 2 ∷ f 3 ∷ f 4 ∷ f 5 ∷ f 6 ∷ f 7 ∷ []
 
@@ -45,5 +45,6 @@ l b = lin (reverse A) b
 unfoldable pub L : List ℕ → List ℕ
 L a = map l a
 
+-- L(P(S(a))), on the words of a
 unfoldable pub LPS : List ℕ → List ℕ
 LPS a = L (words (P (S (bytes a))))

@@ -53,6 +53,7 @@ fn pi_word(i: usize) -> u64
     }
 }
 
+// pi of a byte.
 fn substituted(b: u8) -> u8
     ensures { λ r. ⌜ r ≡ getD pi b 0 ⌝ }
 {
@@ -90,6 +91,7 @@ fn word_at(b: [u8; 64], p: usize) -> u64
     )
 }
 
+// LPS of a vector of eight words, lowest first.
 pub fn lps(a: [u64; 8]) -> [u64; 8]
     ensures { λ r. ⌜ r ≡ LPS a ⌝ }
 {

@@ -5,8 +5,8 @@ use lib.ListN.{getD}
 use Rattle.octets.proofs.Arms.{last}
 use Rattle.hash.specs.Constants.{C}
 use Rattle.hash.specs.Sums.{vec, lowest}
-use Rattle.hash.proofs.constants.constant.Statement.{statement}
-use Rattle.hash.proofs.constants.constant.Tie as tie
+use Rattle.hash.proofs.constant.Statement.{statement}
+use Rattle.hash.proofs.constant.Tie as tie
 
 at : {i k : ℕ} → i ≡ k → vec (getD C k 0) ≡ vec (getD C i 0)
 at e = ap (λ (x : ℕ). vec (getD C x 0)) (sym e)

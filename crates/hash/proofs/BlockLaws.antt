@@ -1,15 +1,14 @@
 -- Blocks of a message in the code: read as words, put into a buffer, padded. Assumes nothing.
 use mathlib.Core.Path.{_≡_, refl, sym, ap, ap₂, _∙_}
 use mathlib.Core.List.{List, [], _∷_, _++_, append-nil}
-use Prim.Native.Nat.{ℕ, zero, suc, _+_, _-_, _*_, _/_, _%_, _<_, _≤_}
-use native.Mathlib.Nat.{sub-zero, zero-sub, suc-sub-suc}
+use Prim.Native.Nat.{ℕ, suc, _+_, _-_, _*_, _/_, _%_, _<_, _≤_}
 use native.Mathlib.Numerals.{add-one}
 use native.Mathlib.Omega.{arith}
 use lib.Dec.{lit≤}
 use lib.ListN.{length, take, drop, set, getD, replicate, length-append, length-drop}
 use lib.Seq.{paste, paste-suc, length-take-le, set-at, drop-append-add, take-append-seam, getD-drop}
 use Rattle.octets.specs.Numbers.{le, leOctets}
-use Rattle.octets.proofs.Parts.{part-part}
+use Rattle.octets.proofs.Parts.{zeros, drop-zeros, part-part}
 use Rattle.lps.specs.Vectors.{each, words, bytes}
 use Rattle.lps.proofs.Bytes.{bytes-at}
 use Rattle.hash.specs.Hash.{padded}
@@ -47,14 +46,6 @@ put-turn b m at from i hb hm =
     ap (set (paste b at (drop from m) i) (at + i)) (sym (getD-drop from m i 0))
     ∙ paste-suc b at (drop from m) i 0 hb (simp length-drop (omega arith))
     ∙ ap (paste b at (drop from m)) (sym (add-one i))
-
-abbrev pub zeros : ℕ → List ℕ
-zeros k = replicate k 0
-
-drop-zeros : (n k : ℕ) → drop n (zeros k) ≡ zeros (k - n)
-drop-zeros zero k = ap zeros (sym (sub-zero k))
-drop-zeros (suc n) zero = ap zeros (sym (zero-sub (suc n)))
-drop-zeros (suc n) (suc k) = drop-zeros n k ∙ ap zeros (sym (suc-sub-suc k n))
 
 -- bytes put after those that a buffer has
 pub put-filled : (t s : List ℕ) (at n : ℕ) → length t ≡ at → at + n ≤ 64 → n ≤ length s → paste (filled t) at s n ≡ filled (t ++ take n s)

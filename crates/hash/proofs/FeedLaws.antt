@@ -13,7 +13,8 @@ use Rattle.hash.specs.declared.Core.{Core}
 use Rattle.hash.specs.declared.State.{State}
 use Rattle.hash.specs.Hash.{advanced, step}
 use Rattle.hash.specs.States.{filled, stateOf, held, fed}
-use Rattle.hash.proofs.BlockLaws.{zeros, put-filled, put-empty, filled-full}
+use Rattle.octets.proofs.Parts.{zeros}
+use Rattle.hash.proofs.BlockLaws.{put-filled, put-empty, filled-full}
 
 -- the part m is fed to s; kept is the buffer with zeros after what it holds
 module _ (s : State) (m kept : List ℕ) (hb : length (s .buffer) ≡ 64) (ek : kept ≡ paste (zeros 64) 0 (s .buffer) (s .fill % 64)) where

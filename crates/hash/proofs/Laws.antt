@@ -6,7 +6,7 @@ use Prim.Native.Nat.{ℕ, _-_, _*_, _<_}
 use native.Mathlib.Nat.{mod-eq-of-lt}
 use native.Mathlib.Omega.{arith}
 use lib.Dec.{lit<}
-use lib.ListN.{length, take, drop, replicate, length-drop}
+use lib.ListN.{length, take, replicate, length-drop}
 use lib.Seq.{take-append-seam}
 use Rattle.blocks.specs.Blocks.{absorbed, tail}
 use Rattle.blocks.proofs.Laws.{joined, tail-short}

@@ -1,13 +1,14 @@
 -- The turns of the loop that looks at digits and fillers; hexadecimal digits. Assumes nothing.
-use Prim.Native.Nat.{ℕ, zero, suc, _+_, _-_, _≤_, _<_}
+use Prim.Native.Nat.{ℕ, zero, suc, _+_, _-_, _≤_, _<_, zero-le, suc-le-suc}
+use native.Mathlib.Nat.{not-suc-le-zero, le-of-suc-le-suc}
 use native.Mathlib.Numerals.{add-one, sub-one}
 use mathlib.Core.Path.{_≡_, refl, sym, ap, _∙_}
-use mathlib.Core.Bool.{false}
+use mathlib.Core.Bool.{true, false, and-eq-true-iff}
 use mathlib.Core.List.{List, [], _∷_}
 use lib.ListN.{length, getD, drop, replicate, drop-of-length-le}
 use lib.Seq.{drop-cons}
-use lib.Dec.{eqb, eqb·suc-zero, eqb→eq}
-use borrow.Author.Tests.{eq-eqb, ne-eqb, le-leb, lt-leb}
+use lib.Dec.{leb, eqb, eqb·suc-zero, eqb→eq}
+use borrow.Author.Tests.{eq-eqb, ne-eqb, le-leb, lt-leb, leb-true}
 use Rattle.octets.specs.Digits.{digits, hexDigit, hexValue}
 use Rattle.octets.proofs.Table.{at}
 
@@ -44,6 +45,19 @@ end-of f (suc k) = sym (eqb·suc-zero k)
 
 pub digits-end : (f n : ℕ) (s : List ℕ) (k i : ℕ) → length s ≤ i → digits f n s ≡ digits f k (drop i s) → eqb k 0 ≡ digits f n s
 digits-end f n s k i p w = sym (w ∙ ap (digits f k) (drop-of-length-le s {i = i} p) ∙ end-of f k)
+
+-- what the test says of each digit, and the test of a list of digits alone
+pub digits-at : (f n : ℕ) (s : List ℕ) → digits f n s ≡ true → (i : ℕ) → i < n → getD s i 0 ≤ 9
+unfolding digits
+digits-at f zero s t i h = absurd (not-suc-le-zero h)
+digits-at f (suc n) [] t i h = zero-le
+digits-at f (suc n) (x ∷ s) t zero h = leb-true x 9 (and-eq-true-iff (leb x 9) (digits f n s) .0 t .0)
+digits-at f (suc n) (x ∷ s) t (suc i) h = digits-at f n s (and-eq-true-iff (leb x 9) (digits f n s) .0 t .1) i (le-of-suc-le-suc h)
+
+pub digits-all : (f : ℕ) (s : List ℕ) → ((i : ℕ) → i < length s → getD s i 0 ≤ 9) → digits f (length s) s ≡ true
+unfolding digits
+digits-all f [] h = refl
+digits-all f (x ∷ s) h = rw (le-leb x 9 (h zero (suc-le-suc zero-le))) (digits-all f s (λ i l. h (suc i) (suc-le-suc l)))
 
 -- a digit that was written is read back
 pub hexValue-hexDigit : (n : ℕ) → n < 16 → hexValue (hexDigit n) ≡ n

@@ -3,11 +3,11 @@ use mathlib.Core.Path.{_≡_, refl, sym, ap, ap₂, _∙_, subst}
 use Prim.Native.Nat.{ℕ, zero, suc, _+_, _-_, _≤_, _<_}
 use mathlib.Core.List.{List, [], _∷_, _++_, map, reverse, reverse-cons, append-nil}
 use native.Mathlib.Omega.{arith}
-use native.Mathlib.Nat.{zero-lt-suc, add-zero, zero-add, not-suc-le-zero, le-of-suc-le-suc}
+use native.Mathlib.Nat.{zero-lt-suc, add-zero, zero-add, not-suc-le-zero, le-of-suc-le-suc, sub-zero, zero-sub, suc-sub-suc}
 use native.Mathlib.Numerals.{add-one}
 use lib.Dec.{T, ltb, ltb→lt}
 use lib.Pow.{areBytes}
-use lib.ListN.{length, take, drop, getD, set, length-drop, drop-of-length-le}
+use lib.ListN.{length, take, drop, getD, replicate, set, length-drop, drop-of-length-le}
 use lib.Seq.{drop-cons, take-all, getD-drop, drop-drop, drop-at, take-add, take-take, length-take-le, paste, paste-suc}
 use Rattle.octets.specs.Numbers.{Octets}
 use Rattle.octets.proofs.Table.{and-left, and-right}
@@ -93,3 +93,17 @@ pub octets-reverse : (s : List ℕ) → Octets s → Octets (reverse s)
 octets-reverse [] h = h
 octets-reverse (x ∷ s) h =
     subst Octets (sym (reverse-cons x s)) (octets-append (reverse s) (x ∷ []) (octets-reverse s (λ j. h (suc j))) (octets-one x (h zero)))
+
+-- a run of zeros, as a buffer is made with
+abbrev pub zeros : ℕ → List ℕ
+zeros k = replicate k 0
+
+pub zeros-at : (n j : ℕ) → getD (zeros n) j 0 ≡ 0
+zeros-at zero j = refl
+zeros-at (suc n) zero = refl
+zeros-at (suc n) (suc j) = zeros-at n j
+
+pub drop-zeros : (n k : ℕ) → drop n (zeros k) ≡ zeros (k - n)
+drop-zeros zero k = ap zeros (sym (sub-zero k))
+drop-zeros (suc n) zero = ap zeros (sym (zero-sub (suc n)))
+drop-zeros (suc n) (suc k) = drop-zeros n k ∙ ap zeros (sym (suc-sub-suc k n))

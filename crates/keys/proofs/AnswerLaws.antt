@@ -1,0 +1,61 @@
+-- What the entry points answer, test by test. Assumes nothing.
+use mathlib.Core.Path.{_≡_, refl, sym, ap, _∙_}
+use mathlib.Core.Bool.{Bool, true, false, not, and-false}
+use mathlib.Core.List.{List, _++_}
+use Prim.Native.Nat.{ℕ, _-_, _<_, _≤_}
+use borrow.Author.Tests.{eq-eqb, ne-eqb, le-leb, lt-leb, not-true, not-false}
+use lib.ListN.{length, take, replicate}
+use Rattle.hash.specs.Hash.{hash256}
+use Rattle.cipher.specs.declared.BlockAnswer.{BlockAnswer}
+use Rattle.cipher.specs.Gost.{encipher}
+use Rattle.derive.specs.Answers.{keyFits, noKey, yes, derivation}
+use Rattle.derive.proofs.Laws.{fits}
+use Rattle.keys.specs.CardNumber.{cardFits}
+use Rattle.octets.specs.Numbers.{beOctets, leOctets}
+use Rattle.cipher.specs.Answers.{enciphered}
+use Rattle.cipher.proofs.AnswerLaws.{fits as block-fits}
+use Rattle.keys.specs.Seeds.{idnBlock}
+use Rattle.keys.specs.Answers.{cardAnswer, counterKey, idn, noIdn, idnAnswer}
+
+module _ (key pan : List ℕ) (q : ℕ) (y : List ℕ) where
+  pub card-no-key : (length key ≡ 32 → ⊥) → noKey 1 ≡ cardAnswer key pan q y
+  unfolding cardAnswer keyFits
+  card-no-key h = simp (ne-eqb _ _ h)
+
+  pub card-no-card : length key ≡ 32 → (t : Bool) → t ≡ cardFits pan q → not t ≡ true → noKey 2 ≡ cardAnswer key pan q y
+  unfolding cardAnswer keyFits
+  card-no-card h t e n = simp (eq-eqb _ _ h, sym e ∙ not-true t n)
+
+  pub card-yes : length key ≡ 32 → (t : Bool) → t ≡ cardFits pan q → not t ≡ false → length y ≡ 8 → derivation key y ≡ cardAnswer key pan q y
+  unfolding cardAnswer keyFits
+  card-yes h t e n l = sym (fits key y h l) ∙ sym (simp (eq-eqb _ _ h, sym e ∙ not-false t n))
+
+pub counter-no-key : (key : List ℕ) → (length key ≡ 32 → ⊥) → noKey 1 ≡ counterKey key
+unfolding counterKey keyFits
+counter-no-key key h = simp (ne-eqb _ _ h)
+
+pub counter-yes : (key : List ℕ) → length key ≡ 32 → yes (hash256 key) ≡ counterKey key
+unfolding counterKey keyFits
+counter-yes key h = simp (eq-eqb _ _ h)
+
+module _ (key : List ℕ) (atc n : ℕ) where
+  pub idn-no-key : (length key ≡ 32 → ⊥) → noIdn ≡ idnAnswer key atc n
+  unfolding idnAnswer keyFits
+  idn-no-key h = simp (ne-eqb _ _ h)
+
+  pub idn-short : n < 2 → noIdn ≡ idnAnswer key atc n
+  unfolding idnAnswer
+  idn-short h = simp (lt-leb _ _ h, and-false)
+
+  pub idn-long : 8 < n → noIdn ≡ idnAnswer key atc n
+  unfolding idnAnswer
+  idn-long h = simp (lt-leb _ _ h, and-false)
+
+  -- the enciphered block comes with no refusal
+  pub idn-yes : length key ≡ 32 → 2 ≤ n → n ≤ 8 → (r : BlockAnswer) → r ≡ enciphered key (idnBlock atc) → (x : List ℕ)
+      → x ≡ take n (r .bytes) ++ replicate (8 - n) 0 → record { code = 0; bytes = x } ≡ idnAnswer key atc n
+  unfolding idnAnswer keyFits idn enciphered idnBlock beOctets leOctets
+  idn-yes h l m r e x w =
+      ap (λ (y : List ℕ). record { code = 0; bytes = y })
+      (w ∙ ap (λ (a : BlockAnswer). take n (a .bytes) ++ replicate (8 - n) 0) (e ∙ sym (block-fits key (idnBlock atc) (encipher key (idnBlock atc)) h refl)))
+      ∙ sym (simp (eq-eqb _ _ h, le-leb _ _ l, le-leb _ _ m))

@@ -1,0 +1,47 @@
+-- What the entry points answer, for every input, in 01's order of refusals. Assumes nothing.
+use Prim.Native.Nat.{ℕ, _-_}
+use mathlib.Core.Bool.{_&&_, cond}
+use mathlib.Core.List.{List, _++_}
+use lib.Dec.{leb}
+use lib.ListN.{take, replicate}
+use Rattle.cipher.specs.Gost.{encipher}
+use Rattle.hash.specs.Hash.{hash256}
+use Rattle.derive.specs.declared.KeyAnswer.{KeyAnswer}
+use Rattle.derive.specs.Derivation.{derived, cardLabel}
+use Rattle.derive.specs.Answers.{keyFits, noKey, yes, derivation}
+use Rattle.keys.specs.declared.IdnAnswer.{IdnAnswer}
+use Rattle.keys.specs.CardNumber.{cardFits, Y, packedY}
+use Rattle.keys.specs.Seeds.{sessionSeed, idnBlock}
+
+-- a card master key from the seed y: 1 for the issuer's key, then 2 for the card
+unfoldable pub cardAnswer : List ℕ → List ℕ → ℕ → List ℕ → KeyAnswer
+cardAnswer key pan sequence y =
+    cond (keyFits key) (cond (cardFits pan sequence) (yes (derived key cardLabel y)) (noKey 2)) (noKey 1)
+
+unfoldable pub cardKey : List ℕ → List ℕ → ℕ → KeyAnswer
+cardKey key pan sequence = cardAnswer key pan sequence (Y pan sequence)
+
+unfoldable pub cardKeyPacked : List ℕ → List ℕ → ℕ → KeyAnswer
+cardKeyPacked key pan sequence = cardAnswer key pan sequence (packedY pan sequence)
+
+-- 003, 4.2.1: for cryptograms, from the transaction counter
+unfoldable pub sessionKey : List ℕ → ℕ → KeyAnswer
+sessionKey key atc = derivation key (sessionSeed atc)
+
+-- 003, 4.2.2 and 4.2.3: for scripts, from the cryptogram
+unfoldable pub scriptKey : List ℕ → List ℕ → KeyAnswer
+scriptKey key cryptogram = derivation key cryptogram
+
+-- 002, 4.3.1: the hash of the session key for cryptograms
+unfoldable pub counterKey : List ℕ → KeyAnswer
+counterKey key = cond (keyFits key) (yes (hash256 key)) (noKey 1)
+
+-- 004, 4.1: the first n bytes of the enciphered counter; the other places of the answer are zero
+unfoldable pub idn : List ℕ → ℕ → ℕ → List ℕ
+idn key atc n = take n (encipher key (idnBlock atc)) ++ replicate (8 - n) 0
+
+unfoldable pub noIdn : IdnAnswer
+noIdn = record { code = 1; bytes = replicate 8 0 }
+
+unfoldable pub idnAnswer : List ℕ → ℕ → ℕ → IdnAnswer
+idnAnswer key atc n = cond (keyFits key && (leb 2 n && leb n 8)) (record { code = 0; bytes = idn key atc n }) noIdn

@@ -1,0 +1,3 @@
+pub mod CardNumber
+pub mod Seeds
+pub mod Answers

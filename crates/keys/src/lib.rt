@@ -1,0 +1,202 @@
+// Card, session and counter keys (R 1323565.1.010, 008) and the IDN (016), each by the one derivation, the hash or the cipher.
+ghost use mathlib.Core.Path.{_≡_};
+ghost use mathlib.Core.Bool.{true};
+ghost use mathlib.Core.List.{_++_};
+ghost use Prim.Native.Nat.{_+_, _-_, _*_, _≤_};
+ghost use lib.ListN.{length, getD, take, replicate};
+ghost use Rattle.octets.specs.Numbers.{beOctets};
+ghost use Rattle.octets.specs.Digits.{digits};
+ghost use Rattle.keys.specs.CardNumber.{cardFits, X, sixteen as lastSixteen, pairs};
+ghost use Rattle.keys.specs.Answers.{cardAnswer, cardKey, cardKeyPacked, sessionKey, scriptKey, counterKey, idnAnswer};
+use derive::KeyAnswer;
+
+// An IDN in the first places, zeros in the others; or a refusal's number and zeros.
+pub struct IdnAnswer {
+    pub code: u8,
+    pub bytes: [u8; 8],
+}
+
+// Whether card number and sequence number have the form that 01 asks for.
+fn card_fits(pan: &[u8], sequence: u8) -> bool
+    ensures { λ r. ⌜ r ≡ cardFits (now (pan .entry)) sequence ⌝ }
+{
+    if pan.len() < 12 {
+        return false;
+    }
+    if pan.len() > 19 {
+        return false;
+    }
+    if sequence > 99 {
+        return false;
+    }
+    octets::digits(pan, pan.len(), 0)
+}
+
+// The digit at a place of X, and 0 past its end.
+fn digit_at(pan: &[u8], sequence: u8, at: usize) -> u8
+    ensures { λ r. ⌜ r ≡ getD (X (now (pan .entry)) sequence) at 0 ⌝ }
+{
+    let n = pan.len();
+    if at < n {
+        return pan[at];
+    }
+    if at - n == 0 {
+        return sequence / 10;
+    }
+    if at - n == 1 {
+        return sequence % 10;
+    }
+    0
+}
+
+// The place in X of the first of its last sixteen digits, for a card number of n.
+fn start(n: usize) -> usize
+    requires { ⌜ n ≤ 19 ⌝ }
+    ensures { λ r. ⌜ r ≡ n + 2 - 16 ⌝ }
+{
+    if n > 14 { n - 14 } else { 0 }
+}
+
+// The last sixteen digits of X, with zeros after it where it is shorter.
+fn sixteen(pan: &[u8], sequence: u8) -> [u8; 16]
+    requires { ⌜ length (now pan) ≤ 19 ⌝ }
+    ensures { λ r. ⌜ r ≡ lastSixteen (X (now (pan .entry)) sequence) ⌝ }
+{
+    let mut out = [0; 16];
+    let from = start(pan.len());
+    let mut i = 0;
+    while i < 16 {
+        out[i] = digit_at(pan, sequence, from + i);
+        i += 1;
+    }
+    out
+}
+
+// Each pair of sixteen digits as one byte.
+fn pair_up(base: u8, s: [u8; 16]) -> [u8; 8]
+    requires { ⌜ (base ≤ 16) × (digits 0 16 s ≡ true) ⌝ }
+    ensures { λ r. ⌜ r ≡ pairs base s ⌝ }
+{
+    let mut out = [0; 8];
+    let mut i = 0;
+    while i < 8 {
+        out[i] = base * s[2 * i] + s[2 * i + 1];
+        i += 1;
+    }
+    out
+}
+
+// A card master key with the pairs of digits in a base.
+fn card_key_by(base: u8, key: &[u8], pan: &[u8], sequence: u8) -> KeyAnswer
+    requires { ⌜ base ≤ 16 ⌝ }
+    ensures { λ r. ⌜ r ≡ cardAnswer (now (key .entry)) (now (pan .entry)) sequence (pairs base (lastSixteen (X (now (pan .entry)) sequence))) ⌝ }
+{
+    if key.len() != 32 {
+        return KeyAnswer {
+            code: 1,
+            bytes: [0; 32],
+        };
+    }
+    if !card_fits(pan, sequence) {
+        return KeyAnswer {
+            code: 2,
+            bytes: [0; 32],
+        };
+    }
+    let y = pair_up(base, sixteen(pan, sequence));
+    derive::derive(key, &y)
+}
+
+// The card master key of an issuer's key, a card number (one digit a byte) and a sequence number (0 where there is none).
+pub fn card_key(issuer: &[u8], pan: &[u8], sequence: u8) -> KeyAnswer
+    ensures { λ r. ⌜ r ≡ cardKey (now (issuer .entry)) (now (pan .entry)) sequence ⌝ }
+{
+    card_key_by(10, issuer, pan, sequence)
+}
+
+// The same with the card digits as packed decimal, as the published master keys of 003 are made.
+pub fn card_key_packed(issuer: &[u8], pan: &[u8], sequence: u8) -> KeyAnswer
+    ensures { λ r. ⌜ r ≡ cardKeyPacked (now (issuer .entry)) (now (pan .entry)) sequence ⌝ }
+{
+    card_key_by(16, issuer, pan, sequence)
+}
+
+// The two octets of a counter, high first.
+fn high_first(x: u16) -> [u8; 2]
+    ensures { λ r. ⌜ r ≡ beOctets 2 x ⌝ }
+{
+    [(x / 256 % 256) as u8, (x % 256) as u8]
+}
+
+// The session key for cryptograms, from the master key and the transaction counter.
+pub fn session_key(master: &[u8], counter: u16) -> KeyAnswer
+    ensures { λ r. ⌜ r ≡ sessionKey (now (master .entry)) counter ⌝ }
+{
+    let c = high_first(counter);
+    derive::derive(master, &[c[0], c[1], 0xf0, 0, 0, 0, 0, 0])
+}
+
+// The session key for scripts, from the master key (SMI or SMC) and the cryptogram of 8 bytes.
+pub fn script_key(master: &[u8], cryptogram: &[u8]) -> KeyAnswer
+    ensures { λ r. ⌜ r ≡ scriptKey (now (master .entry)) (now (cryptogram .entry)) ⌝ }
+{
+    derive::derive(master, cryptogram)
+}
+
+// The key for counter blocks, from the session key for cryptograms.
+pub fn counter_key(session: &[u8]) -> KeyAnswer
+    ensures { λ r. ⌜ r ≡ counterKey (now (session .entry)) ⌝ }
+{
+    if session.len() != 32 {
+        return KeyAnswer {
+            code: 1,
+            bytes: [0; 32],
+        };
+    }
+    let bytes = hash::hash(session);
+    KeyAnswer { code: 0, bytes }
+}
+
+// The first n octets, and zeros in the other places.
+fn first(b: [u8; 8], n: u8) -> [u8; 8]
+    requires { ⌜ n ≤ 8 ⌝ }
+    ensures { λ r. ⌜ r ≡ take n b ++ replicate (8 - n) 0 ⌝ }
+{
+    let mut out = [0; 8];
+    let m = n as usize;
+    let mut i = 0;
+    while i < m {
+        out[i] = b[i];
+        i += 1;
+    }
+    out
+}
+
+// The IDN of n bytes, n from 2 to 8, under an IDN key; else 1.
+pub fn idn(key: &[u8], counter: u16, n: u8) -> IdnAnswer
+    ensures { λ r. ⌜ r ≡ idnAnswer (now (key .entry)) counter n ⌝ }
+{
+    if key.len() != 32 {
+        return IdnAnswer {
+            code: 1,
+            bytes: [0; 8],
+        };
+    }
+    if n < 2 {
+        return IdnAnswer {
+            code: 1,
+            bytes: [0; 8],
+        };
+    }
+    if n > 8 {
+        return IdnAnswer {
+            code: 1,
+            bytes: [0; 8],
+        };
+    }
+    let c = high_first(counter);
+    let r = cipher::encipher(key, &[c[0], c[1], 0, 0, 0, 0, 0, 0]);
+    let b = r.bytes;
+    let bytes = first(b, n);
+    IdnAnswer { code: 0, bytes }
+}

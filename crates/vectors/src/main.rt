@@ -2,10 +2,11 @@
 // a line of the output repeats the three names and gives what the box computes. The file stdout has the published values.
 mod readings;
 
-ghost use Prim.Native.Nat.{_≤_};
+ghost use Prim.Native.Nat.{_≤_, _<_};
 ghost use lib.ListN.{length};
 use cipher::BlockAnswer;
 use cipher::CodeAnswer;
+use derive::KeyAnswer;
 use libc::STDIN_FILENO;
 use libc::STDOUT_FILENO;
 
@@ -101,23 +102,6 @@ fn answer(code: u8, bytes: &[u8]) {
     put(&[code]);
 }
 
-// IDN (004, 4.1): the first bytes, as many as count says, of the enciphered counter and six 00.
-fn idn(key: &[u8], counter: &[u8], count: &[u8]) {
-    if counter.len() != 2 {
-        return;
-    }
-    if count.len() != 1 {
-        return;
-    }
-    let r = cipher::encipher(key, &[counter[0], counter[1], 0, 0, 0, 0, 0, 0]);
-    let bytes = r.bytes;
-    answer(r.code, first(&bytes, wide(count[0])));
-}
-
-fn wide(x: u8) -> usize {
-    x as usize
-}
-
 fn answer_block(r: BlockAnswer) {
     let bytes = r.bytes;
     answer(r.code, &bytes);
@@ -128,7 +112,95 @@ fn answer_code(r: CodeAnswer) {
     answer(r.code, &bytes);
 }
 
-// The operation that a name stands for.
+fn answer_key(r: KeyAnswer) {
+    let bytes = r.bytes;
+    answer(r.code, &bytes);
+}
+
+// A number of one or two bytes, high first.
+fn number(b: &[u8]) -> u16 {
+    if b.len() == 1 {
+        return wide(b[0]);
+    }
+    if b.len() == 2 {
+        return wide(b[0]) * 256 + wide(b[1]);
+    }
+    0
+}
+
+fn wide(x: u8) -> u16
+    ensures { λ r. ⌜ r < 256 ⌝ }
+{
+    x as u16
+}
+
+// The IDN of as many bytes as n says.
+fn idn(key: &[u8], counter: &[u8], n: &[u8]) {
+    if n.len() != 1 {
+        return;
+    }
+    let r = keys::idn(key, number(counter), n[0]);
+    let bytes = r.bytes;
+    answer(r.code, first(&bytes, number(n) as usize));
+}
+
+fn card_key(packed: bool, key: &[u8], digits: &[u8], sequence: &[u8]) {
+    if sequence.len() != 1 {
+        return;
+    }
+    if packed {
+        answer_key(keys::card_key_packed(key, digits, sequence[0]));
+        return;
+    }
+    answer_key(keys::card_key(key, digits, sequence[0]));
+}
+
+// The derivation with a label of its own.
+fn labelled(key: &[u8], label: &[u8], seed: &[u8]) {
+    if key.len() != 32 {
+        return;
+    }
+    if label.len() != 4 {
+        return;
+    }
+    let mut k = [0u8; 32];
+    let mut i = 0;
+    while i < 32 {
+        k[i] = key[i];
+        i += 1;
+    }
+    let l = [label[0], label[1], label[2], label[3]];
+    answer(0, &derive::derive_with(derive::start(k), l, seed));
+}
+
+// The operations on keys that a name stands for.
+fn run_keys(name: &[u8], a: &[u8], b: &[u8], c: &[u8]) {
+    if octets::same(name, b"card-key") {
+        card_key(false, a, b, c);
+        return;
+    }
+    if octets::same(name, b"card-key-packed") {
+        card_key(true, a, b, c);
+        return;
+    }
+    if octets::same(name, b"session-key") {
+        answer_key(keys::session_key(a, number(b)));
+        return;
+    }
+    if octets::same(name, b"script-key") {
+        answer_key(keys::script_key(a, b));
+        return;
+    }
+    if octets::same(name, b"counter-key") {
+        answer_key(keys::counter_key(a));
+        return;
+    }
+    if octets::same(name, b"derive") {
+        labelled(a, b, c);
+    }
+}
+
+// The other operations.
 fn run(name: &[u8], a: &[u8], b: &[u8], c: &[u8]) {
     if octets::same(name, b"code") {
         answer_code(cipher::code(a, b));
@@ -142,25 +214,34 @@ fn run(name: &[u8], a: &[u8], b: &[u8], c: &[u8]) {
         answer_block(cipher::decipher(a, b));
         return;
     }
+    if octets::same(name, b"hash") {
+        answer(0, &hash::hash(a));
+        return;
+    }
+    if octets::same(name, b"hmac") {
+        answer_key(derive::hmac(a, b));
+        return;
+    }
     if octets::same(name, b"idn") {
         idn(a, b, c);
         return;
     }
-    if octets::same(name, b"readings.code") {
-        readings::code(a, b, c);
-        return;
-    }
-    readings::idn(a, b, c);
+    run_readings(name, a, b, c);
+    run_keys(name, a, b, c);
 }
 
-// One line: three names, then up to three inputs.
-fn line_of(line: &[u8]) {
-    let document = Word {
-        from: 0,
-        to: find(line, 0, b' '),
-    };
-    let clause = after(line, document);
-    let name = after(line, clause);
+// The readings of the octet order.
+fn run_readings(name: &[u8], a: &[u8], b: &[u8], c: &[u8]) {
+    if octets::same(name, b"readings.code") {
+        readings::code(a, b, c);
+    }
+    if octets::same(name, b"readings.idn") {
+        readings::idn(a, b, c);
+    }
+}
+
+// The inputs after the operation's name, and the operation on them.
+fn operation(line: &[u8], name: Word) {
     let w1 = after(line, name);
     let w2 = after(line, w1);
     let w3 = after(line, w2);
@@ -170,13 +251,23 @@ fn line_of(line: &[u8]) {
     let n1 = unhex(part(line, w1), &mut a);
     let n2 = unhex(part(line, w2), &mut b);
     let n3 = unhex(part(line, w3), &mut c);
-    io::write_all(STDOUT_FILENO, first(line, name.to));
     run(
         part(line, name),
         first(&a, n1),
         first(&b, n2),
         first(&c, n3),
     );
+}
+
+// One line: three names, then up to three inputs.
+fn line_of(line: &[u8]) {
+    let document = Word {
+        from: 0,
+        to: find(line, 0, b' '),
+    };
+    let name = after(line, after(line, document));
+    io::write_all(STDOUT_FILENO, first(line, name.to));
+    operation(line, name);
     io::write_all(STDOUT_FILENO, b"\n");
 }
 

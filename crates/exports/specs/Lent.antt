@@ -1,0 +1,37 @@
+-- How an answer reaches the slice that a caller lends for it. Assumes nothing.
+use Prim.Native.Nat.{ℕ}
+use mathlib.Core.Path.{_≡_}
+use mathlib.Core.Bool.{_&&_, cond}
+use mathlib.Core.List.{List}
+use lib.Dec.{eqb}
+use lib.ListN.{length}
+use Rattle.cipher.specs.declared.BlockAnswer.{BlockAnswer}
+use Rattle.cipher.specs.declared.CodeAnswer.{CodeAnswer}
+use Rattle.derive.specs.declared.KeyAnswer.{KeyAnswer}
+use Rattle.keys.specs.declared.IdnAnswer.{IdnAnswer}
+
+-- the number returned: 1 for a lent slice that is not n bytes long, else the answer's own
+unfoldable pub numberOf : ℕ → ℕ → List ℕ → ℕ
+numberOf n code lent = cond (eqb (length lent) n) code 1
+
+-- the slice afterwards: the answer's bytes where it is accepted, and as it was where it is refused
+unfoldable pub bytesAfter : ℕ → ℕ → List ℕ → List ℕ → List ℕ
+bytesAfter n code bytes lent = cond (eqb (length lent) n && eqb code 0) bytes lent
+
+-- an answer of n bytes, given to a lent slice: r is returned, and the slice is `after`
+pub record Given (n code : ℕ) (bytes lent : List ℕ) (r : ℕ) (after : List ℕ) : Type 0 where
+  pub number : r ≡ numberOf n code lent
+  pub slice : after ≡ bytesAfter n code bytes lent
+
+-- the same of a key, of a block, and of a code
+abbrev pub GivenKey : KeyAnswer → List ℕ → ℕ → List ℕ → Type 0
+GivenKey a lent r after = Given 32 (a .code) (a .bytes) lent r after
+
+abbrev pub GivenBlock : BlockAnswer → List ℕ → ℕ → List ℕ → Type 0
+GivenBlock a lent r after = Given 8 (a .code) (a .bytes) lent r after
+
+abbrev pub GivenCode : CodeAnswer → List ℕ → ℕ → List ℕ → Type 0
+GivenCode a lent r after = Given 4 (a .code) (a .bytes) lent r after
+
+abbrev pub GivenIdn : IdnAnswer → List ℕ → ℕ → List ℕ → Type 0
+GivenIdn a lent r after = Given 8 (a .code) (a .bytes) lent r after

@@ -61,7 +61,7 @@ substituted-lt x = omega (arith, looked-up x, looked-lt words x)
 
 mixed-lt : (x k : ℕ) → mixed x k < 2 ^ 32
 unfolding mixed
-mixed-lt x k = shifted-lt (substituted rows ((x + k) % 2 ^ 32)) (substituted-lt ((x + k) % 2 ^ 32))
+mixed-lt x k = shifted-lt _ (substituted-lt _)
 
 round-words : (k : ℕ) (s : Halves) → Words s → Words (round k s)
 unfolding round

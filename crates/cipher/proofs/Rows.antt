@@ -62,13 +62,13 @@ looked-lt (w ∷ ws) x =
 
 -- the eight entries that the source looks up, put together
 module _ (x e0 e1 e2 e3 e4 e5 e6 e7 : ℕ) where
-  pub entries : e0 ≡ 0x1f30_7d8e_9b5a_264c / 2 ^ (x % 16 * 4) % 16
-      → e1 ≡ 0xf0db_74e1_c5a9_3286 / 2 ^ (x / 16 % 16 * 4) % 16
-      → e2 ≡ 0x069c_471e_daf2_853b / 2 ^ (x / 16 / 16 % 16 * 4) % 16
-      → e3 ≡ 0xb9e3_5a07_6f4d_128c / 2 ^ (x / 16 / 16 / 16 % 16 * 4) % 16
-      → e4 ≡ 0xc24b_e390_d618_a5f7 / 2 ^ (x / 16 / 16 / 16 / 16 % 16 * 4) % 16
-      → e5 ≡ 0x0e34_187b_ac29_6fd5 / 2 ^ (x / 16 / 16 / 16 / 16 / 16 % 16 * 4) % 16
-      → e6 ≡ 0x73ad_0b4f_c196_52e8 / 2 ^ (x / 16 / 16 / 16 / 16 / 16 / 16 % 16 * 4) % 16
-      → e7 ≡ 0x2bc9_6af4_3850_de71 / 2 ^ (x / 16 / 16 / 16 / 16 / 16 / 16 / 16 % 16 * 4) % 16
+  pub entries : e0 ≡ getD words 0 0 / 2 ^ (x % 16 * 4) % 16
+      → e1 ≡ getD words 1 0 / 2 ^ (x / 16 % 16 * 4) % 16
+      → e2 ≡ getD words 2 0 / 2 ^ (x / 16 / 16 % 16 * 4) % 16
+      → e3 ≡ getD words 3 0 / 2 ^ (x / 16 / 16 / 16 % 16 * 4) % 16
+      → e4 ≡ getD words 4 0 / 2 ^ (x / 16 / 16 / 16 / 16 % 16 * 4) % 16
+      → e5 ≡ getD words 5 0 / 2 ^ (x / 16 / 16 / 16 / 16 / 16 % 16 * 4) % 16
+      → e6 ≡ getD words 6 0 / 2 ^ (x / 16 / 16 / 16 / 16 / 16 / 16 % 16 * 4) % 16
+      → e7 ≡ getD words 7 0 / 2 ^ (x / 16 / 16 / 16 / 16 / 16 / 16 / 16 % 16 * 4) % 16
       → e0 + 16 * (e1 + 16 * (e2 + 16 * (e3 + 16 * (e4 + 16 * (e5 + 16 * (e6 + 16 * e7)))))) ≡ substituted rows x
   entries h0 h1 h2 h3 h4 h5 h6 h7 = simp (h0, h1, h2, h3, h4, h5, h6, h7) (simp add-zero at (looked-up x))

@@ -25,7 +25,7 @@ noBlock = record { code = 1; bytes = replicate 8 0 }
 unfoldable pub noCode : CodeAnswer
 noCode = record { code = 1; bytes = replicate 4 0 }
 
--- octets x in answer to a key and a block of these lengths
+-- the octets x where key and block have their lengths, else refusal 1
 unfoldable pub blockAnswer : List ℕ → List ℕ → List ℕ → BlockAnswer
 blockAnswer key b x = cond (keyFits key && blockFits b) (record { code = 0; bytes = x }) noBlock
 

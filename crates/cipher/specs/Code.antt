@@ -1,4 +1,4 @@
--- The authentication code of GOST 28147-89 (RFC 5830, section 8): 16 rounds a block, over one or more whole blocks of 8 octets.
+-- The authentication code of GOST 28147-89 (RFC 5830, section 8): 16 rounds a block of 8 octets, over one or more whole blocks (01).
 -- Assumes nothing.
 use Prim.Native.Nat.{ℕ}
 use mathlib.Core.List.{List, _++_}
@@ -16,6 +16,7 @@ added s t = record { n1 = bitXor (s .n1) (t .n1); n2 = bitXor (s .n2) (t .n2) }
 unfoldable pub step : List ℕ → Halves → List ℕ → Halves
 step ks s b = rounds (ks ++ ks) (added s (halves b))
 
+-- zeros, so that the first block enters as it is
 unfoldable pub start : Halves
 start = record { n1 = 0; n2 = 0 }
 

@@ -7,7 +7,8 @@ use lib.Bits.{bitXor}
 use Rattle.octets.specs.Numbers.{le, leOctets}
 use Rattle.cipher.specs.declared.Halves.{Halves}
 
--- RFC 7836: the rows of the substitution. Row i replaces the half-byte i of a word, the least significant first
+-- RFC 7836, id-tc26-gost-28147-param-Z (RFC 8891 prints the same rows as Pi'0 to Pi'7): row i replaces half-byte i of a word, the least
+-- significant first
 abbrev pub pi0 : List ℕ
 pi0 = 12 ∷ 4 ∷ 6 ∷ 2 ∷ 10 ∷ 5 ∷ 11 ∷ 9 ∷ 14 ∷ 8 ∷ 13 ∷ 7 ∷ 0 ∷ 3 ∷ 15 ∷ 1 ∷ []
 
@@ -61,7 +62,7 @@ rounds (k ∷ ks) s = rounds ks (round k s)
 unfoldable pub exchanged : Halves → Halves
 exchanged s = record { n1 = s .n2; n2 = s .n1 }
 
--- the eight subkeys of a key
+-- the first n subkeys of a key, which has eight
 unfoldable pub subkeys : ℕ → List ℕ → List ℕ
 subkeys zero key = []
 subkeys (suc n) key = le (take 4 key) ∷ subkeys n (drop 4 key)
@@ -77,7 +78,8 @@ block s = leOctets 4 (s .n1) ++ leOctets 4 (s .n2)
 unfoldable pub through : List ℕ → List ℕ → List ℕ
 through ks b = block (exchanged (rounds ks (halves b)))
 
--- the order of the subkeys: three times up and once down to encipher, once up and three times down to decipher (section 5.2)
+-- the order of the subkeys: three times up and once down to encipher, once up and three times down to decipher
+-- (sections 5.1 and 5.2)
 unfoldable pub forth : List ℕ → List ℕ
 forth ks = ks ++ ks ++ ks ++ reverse ks
 

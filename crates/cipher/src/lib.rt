@@ -1,5 +1,5 @@
 // GOST 28147-89 (RFC 5830) with the substitution of RFC 7836 (id-tc26-gost-28147-param-Z): simple replacement both ways and
-// the 16-round code. There is no table in memory, and no branch on a key or on data.
+// the 16-round code. There is no table in memory, and the compiled program has no branch on a key or on data.
 ghost use mathlib.Core.Path.{_≡_};
 ghost use Prim.Native.Nat.{_+_, _*_, _/_, _%_, _^_, _<_, _≤_};
 ghost use lib.ListN.{length, take, drop};

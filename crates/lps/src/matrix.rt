@@ -164,7 +164,7 @@ fn mix(b: u8, r0: u64, r1: u64, r2: u64, r3: u64, r4: u64, r5: u64, r6: u64, r7:
 }
 
 // A word through the matrix, byte by byte.
-pub fn word(b0: u8, b1: u8, b2: u8, b3: u8, b4: u8, b5: u8, b6: u8, b7: u8) -> u64
+pub(crate) fn word(b0: u8, b1: u8, b2: u8, b3: u8, b4: u8, b5: u8, b6: u8, b7: u8) -> u64
     ensures { λ r. ⌜ r ≡ l (le (b0 ∷ b1 ∷ b2 ∷ b3 ∷ b4 ∷ b5 ∷ b6 ∷ b7 ∷ [])) ⌝ }
 {
     let x7 = mix(b7, A7, A6, A5, A4, A3, A2, A1, A0);

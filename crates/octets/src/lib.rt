@@ -37,7 +37,7 @@ pub fn octet(x: u64, i: usize) -> u8
     ((x >> s) % 256) as u8
 }
 
-// Whether two strings are equal. The time depends on their lengths alone.
+// Whether two strings are equal. It looks at every octet and leaves early for no difference.
 pub fn same(a: &[u8], b: &[u8]) -> bool
     ensures { λ r. ⌜ r ≡ alike (now (a .entry)) (now (b .entry)) ⌝ }
 {

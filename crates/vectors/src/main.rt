@@ -173,7 +173,7 @@ fn labelled(key: &[u8], label: &[u8], seed: &[u8]) {
     answer(0, &derive::derive_with(derive::start(k), l, seed));
 }
 
-// The operations on keys that a name stands for.
+// The operations of `keys`.
 fn run_keys(name: &[u8], a: &[u8], b: &[u8], c: &[u8]) {
     if octets::same(name, b"card-key") {
         card_key(false, a, b, c);
@@ -195,12 +195,31 @@ fn run_keys(name: &[u8], a: &[u8], b: &[u8], c: &[u8]) {
         answer_key(keys::counter_key(a));
         return;
     }
-    if octets::same(name, b"derive") {
-        labelled(a, b, c);
+    if octets::same(name, b"idn") {
+        idn(a, b, c);
+        return;
     }
+    io::write_all(STDOUT_FILENO, b" unknown");
 }
 
-// The other operations.
+// The operations of `hash` and `derive`.
+fn run_hash(name: &[u8], a: &[u8], b: &[u8], c: &[u8]) {
+    if octets::same(name, b"hash") {
+        answer(0, &hash::hash(a));
+        return;
+    }
+    if octets::same(name, b"hmac") {
+        answer_key(derive::hmac(a, b));
+        return;
+    }
+    if octets::same(name, b"derive") {
+        labelled(a, b, c);
+        return;
+    }
+    run_keys(name, a, b, c);
+}
+
+// The operations of `cipher`, and the readings of the octet order.
 fn run(name: &[u8], a: &[u8], b: &[u8], c: &[u8]) {
     if octets::same(name, b"code") {
         answer_code(cipher::code(a, b));
@@ -214,30 +233,15 @@ fn run(name: &[u8], a: &[u8], b: &[u8], c: &[u8]) {
         answer_block(cipher::decipher(a, b));
         return;
     }
-    if octets::same(name, b"hash") {
-        answer(0, &hash::hash(a));
-        return;
-    }
-    if octets::same(name, b"hmac") {
-        answer_key(derive::hmac(a, b));
-        return;
-    }
-    if octets::same(name, b"idn") {
-        idn(a, b, c);
-        return;
-    }
-    run_readings(name, a, b, c);
-    run_keys(name, a, b, c);
-}
-
-// The readings of the octet order.
-fn run_readings(name: &[u8], a: &[u8], b: &[u8], c: &[u8]) {
     if octets::same(name, b"readings.code") {
         readings::code(a, b, c);
+        return;
     }
     if octets::same(name, b"readings.idn") {
         readings::idn(a, b, c);
+        return;
     }
+    run_hash(name, a, b, c);
 }
 
 // The inputs after the operation's name, and the operation on them.

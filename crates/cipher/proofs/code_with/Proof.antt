@@ -7,6 +7,7 @@ use Rattle.cipher.specs.Code.{codeOf, state, start}
 use Rattle.cipher.specs.Answers.{noCode}
 use Rattle.cipher.specs.declared.Halves.{Halves}
 use Rattle.cipher.proofs.AnswerLaws.{no-octets, no-whole, string-fits}
+use native.Mathlib.Omega.{arith}
 use borrow.Author.Needs.{needs}
 use Rattle.cipher.proofs.code_with.Statement.{statement}
 use Rattle.cipher.proofs.code_with.Tie as tie
@@ -17,7 +18,7 @@ returns c = no-octets _ _ (c .if1 .taken)
 
 returns-2 : tie.Need-returns-2
 unfolding noCode
-returns-2 c = no-whole _ _ (c .if2 .taken)
+returns-2 c = no-whole _ _ (λ e. c .if2 .taken (omega arith))
 
 returns-3 : tie.Need-returns-3
 unfolding codeOf state start

@@ -52,6 +52,31 @@ uint8_t box_script_key(const uint8_t *master, size_t master_length, const uint8_
 /* The key for counter blocks, from the session key for cryptograms of 32 bytes. out: 32. Refusal 1. */
 uint8_t box_counter_key(const uint8_t *session, size_t session_length, uint8_t *out, size_t out_length);
 
+/* The IDN of out_length bytes, 2 to 8, from the IDN key of 32 bytes and the transaction counter. Refusal 1. */
+uint8_t box_idn(const uint8_t *key, size_t key_length, uint16_t counter, uint8_t *out, size_t out_length);
+
+/* A PIN block in clear: pin has 4 to 12 digits, one a byte. out: 8. Refusals 1 (out), 12. */
+uint8_t box_write_pin(const uint8_t *pin, size_t pin_length, uint8_t *out, size_t out_length);
+
+/* A PIN block in clear, of 8 bytes, taken apart. out: 13, the number of digits and then twelve places, zeros after the digits. Refusals 1, 9. */
+uint8_t box_read_pin(const uint8_t *block, size_t block_length, uint8_t *out, size_t out_length);
+
+/* The cryptogram of the 65 data bytes, under the session key for cryptograms of 32 bytes. kind is 0x80 for ARQC, 0x40 for TC, 0x00 for AAC; the
+ * counter is written into the data at offsets 31 and 32, the kind into the upper half of offset 36. out: 8. Refusal 1. */
+uint8_t box_cryptogram(const uint8_t *key, size_t key_length, uint8_t kind, uint16_t counter, const uint8_t *data, size_t data_length, uint8_t *out, size_t out_length);
+
+/* The issuer's answer to a cryptogram of 8 bytes with a CSU of 4, under the session key for cryptograms of 32. out: 8. Refusal 1. */
+uint8_t box_arpc(const uint8_t *key, size_t key_length, const uint8_t *cryptogram, size_t cryptogram_length, const uint8_t *csu, size_t csu_length, uint8_t *out, size_t out_length);
+
+/* A script message under the SMI session key of 32 bytes and the command's header of 4 (class, instruction, two parameters): tag 0x87 for
+ * enciphered data or 0x81 for clear, up to 127 data bytes as given. It is written into the buffer from the place on, data_length + 8
+ * bytes of it; every other byte of the buffer stays. Refusals 1, 3. */
+uint8_t box_wrap(const uint8_t *key, size_t key_length, const uint8_t *header, size_t header_length, uint8_t tag, const uint8_t *data, size_t data_length, uint8_t *buffer, size_t buffer_length, size_t place);
+
+/* A script message opened under the SMI session key of 32 bytes and the header of 4. found: 3, the tag, the place of the data in the message
+ * and their length. Refusals 1, 4, 8. */
+uint8_t box_open(const uint8_t *key, size_t key_length, const uint8_t *header, size_t header_length, const uint8_t *message, size_t message_length, uint8_t *found, size_t found_length);
+
 #ifdef __cplusplus
 }
 #endif

@@ -4,7 +4,7 @@ use mathlib.Core.Path.{_≡_}
 use mathlib.Core.Bool.{_&&_, cond}
 use mathlib.Core.List.{List}
 use lib.Dec.{eqb}
-use lib.ListN.{length}
+use lib.ListN.{length, take}
 use Rattle.cipher.specs.declared.BlockAnswer.{BlockAnswer}
 use Rattle.cipher.specs.declared.CodeAnswer.{CodeAnswer}
 use Rattle.derive.specs.declared.KeyAnswer.{KeyAnswer}
@@ -33,5 +33,6 @@ GivenBlock a lent r after = Given 8 (a .code) (a .bytes) lent r after
 abbrev pub GivenCode : CodeAnswer → List ℕ → ℕ → List ℕ → Type 0
 GivenCode a lent r after = Given 4 (a .code) (a .bytes) lent r after
 
+-- an IDN has as many bytes as the slice lent for it
 abbrev pub GivenIdn : IdnAnswer → List ℕ → ℕ → List ℕ → Type 0
-GivenIdn a lent r after = Given 8 (a .code) (a .bytes) lent r after
+GivenIdn a lent r after = Given (length lent) (a .code) (take (length lent) (a .bytes)) lent r after

@@ -3,7 +3,7 @@
 ghost use lib.ListN.{length};
 ghost use Rattle.cipher.specs.Answers.{enciphered, deciphered, coded};
 ghost use Rattle.derive.specs.Answers.{derivation};
-ghost use Rattle.keys.specs.Answers.{cardKey, cardKeyPacked, sessionKey, scriptKey, counterKey};
+ghost use Rattle.keys.specs.Answers.{cardKey, cardKeyPacked, sessionKey, scriptKey, counterKey, idnAnswer};
 ghost use Rattle.exports.specs.Lent.{Given, GivenKey, GivenBlock, GivenCode, GivenIdn};
 
 // An answer's bytes to the slice lent for them.
@@ -112,4 +112,18 @@ pub extern "C" fn box_counter_key(session: &[u8], out: &mut [u8]) -> u8
     let r = keys::counter_key(session);
     let bytes = r.bytes;
     give(r.code, &bytes, out)
+}
+
+// The IDN of as many bytes as the slice lent for it has, 2 to 8, under an IDN key. 1: a length.
+#[no_mangle]
+pub extern "C" fn box_idn(key: &[u8], counter: u16, out: &mut [u8]) -> u8
+    ensures { λ r. ⌜ GivenIdn (idnAnswer (now (key .entry)) counter (length (now (out .entry)))) (now (out .entry)) r (now (out .exit)) ⌝ }
+{
+    let n = out.len();
+    if n > 8 {
+        return 1;
+    }
+    let r = keys::idn(key, counter, n as u8);
+    let bytes = r.bytes;
+    give(r.code, &bytes[..n], out)
 }

@@ -1,0 +1,223 @@
+/* box: the desk's work from a command line, over the library of include/box.h.
+ *
+ *     box COMMAND WORDS..        box --help
+ *
+ * Bytes are written and read in hexadecimal, PINs and card numbers in decimal. The answer goes to standard output, one value a line, and
+ * the exit status is 0; a refusal goes to standard error by number and in words, and the status is 1.
+ */
+#include "box.h"
+
+#include <stdio.h>
+#include <stdlib.h>
+#include <string.h>
+
+/* The longest message: 127 data bytes and 8 more. */
+#define MESSAGE 135
+
+static const char help[] =
+    "box: keys, codes and scripts of the Mir scheme\n"
+    "\n"
+    "  box card-key ISSUER-KEY CARD-NUMBER [SEQUENCE]     the card's master key\n"
+    "  box card-key-packed ISSUER-KEY CARD-NUMBER [SEQUENCE]\n"
+    "                                                     the same, card digits as packed decimal\n"
+    "  box session-keys MK-AC MK-SMI MK-SMC COUNTER CRYPTOGRAM\n"
+    "                                                     the keys of one transaction: AC, counter key, SMI, SMC\n"
+    "  box change-pin SK-SMI SK-SMC PIN                   the script that sets a PIN: its header, then its message\n"
+    "  box block SK-SMI                                   the script that blocks the card\n"
+    "  box unblock SK-SMI                                 the script that unblocks it\n"
+    "  box open SK-SMI HEADER MESSAGE                     a script message opened: its tag, then its data\n"
+    "  box arpc SK-AC CRYPTOGRAM CSU                      the issuer's answer to a cryptogram\n"
+    "  box idn IDN-KEY COUNTER LENGTH                     an ICC dynamic number of 2 to 8 bytes\n"
+    "\n"
+    "Keys (64 digits), headers, cryptograms, messages and CSUs are hexadecimal; card numbers, PINs, sequence numbers and\n"
+    "lengths are decimal; a transaction counter is four hexadecimal digits.\n";
+
+static const char *in_words(unsigned number) {
+    switch (number) {
+    case 1: return "an input has not the length or range stated";
+    case 2: return "the card number has not 12 to 19 digits, or the sequence number is above 99";
+    case 3: return "the output does not fit";
+    case 4: return "the shape of the message is wrong";
+    case 8: return "the code of the message differs";
+    case 9: return "the format of the PIN block is wrong";
+    case 12: return "the PIN has not 4 to 12 digits";
+    default: return "refused";
+    }
+}
+
+static int refused(unsigned number) {
+    fprintf(stderr, "box: refusal %u: %s\n", number, in_words(number));
+    return 1;
+}
+
+static int misused(const char *why, const char *word) {
+    fprintf(stderr, "box: %s: %s (box --help lists the commands)\n", why, word);
+    return 1;
+}
+
+static int digit(char c) {
+    if (c >= '0' && c <= '9') return c - '0';
+    if (c >= 'a' && c <= 'f') return c - 'a' + 10;
+    if (c >= 'A' && c <= 'F') return c - 'A' + 10;
+    return -1;
+}
+
+/* A word as bytes, from pairs of hexadecimal digits. */
+struct bytes {
+    uint8_t at[512];
+    size_t length;
+};
+
+static int hexadecimal(const char *word, struct bytes *b) {
+    size_t n = strlen(word), i;
+    if (n % 2 != 0 || n / 2 > sizeof b->at) return misused("not pairs of hexadecimal digits", word);
+    for (i = 0; i < n / 2; i++) {
+        int high = digit(word[2 * i]), low = digit(word[2 * i + 1]);
+        if (high < 0 || low < 0) return misused("not hexadecimal", word);
+        b->at[i] = (uint8_t)(high * 16 + low);
+    }
+    b->length = n / 2;
+    return 0;
+}
+
+/* A word as one byte a decimal digit. */
+static int decimal(const char *word, struct bytes *b) {
+    size_t n = strlen(word), i;
+    if (n > sizeof b->at) return misused("too long", word);
+    for (i = 0; i < n; i++) {
+        if (word[i] < '0' || word[i] > '9') return misused("not decimal digits", word);
+        b->at[i] = (uint8_t)(word[i] - '0');
+    }
+    b->length = n;
+    return 0;
+}
+
+/* A small decimal number; one that is none counts as 255, which no call takes. */
+static uint8_t number(const char *word) {
+    char *end;
+    unsigned long n = strtoul(word, &end, 10);
+    return *word == '\0' || *end != '\0' || n > 255 ? 255 : (uint8_t)n;
+}
+
+static void print(const char *name, const uint8_t *at, size_t length) {
+    size_t i;
+    if (name != NULL) printf("%s ", name);
+    for (i = 0; i < length; i++) printf("%02x", at[i]);
+    putchar('\n');
+}
+
+static int counter_of(const char *word, uint16_t *counter) {
+    struct bytes b;
+    if (hexadecimal(word, &b)) return 1;
+    if (b.length != 2) return refused(1);
+    *counter = (uint16_t)(b.at[0] * 256 + b.at[1]);
+    return 0;
+}
+
+static int card_key(char **word, int words, int packed) {
+    struct bytes issuer, pan;
+    uint8_t key[32], sequence = words > 2 ? number(word[2]) : 0, r;
+    if (hexadecimal(word[0], &issuer) || decimal(word[1], &pan)) return 1;
+    r = packed ? box_card_key_packed(issuer.at, issuer.length, pan.at, pan.length, sequence, key, sizeof key)
+               : box_card_key(issuer.at, issuer.length, pan.at, pan.length, sequence, key, sizeof key);
+    if (r != 0) return refused(r);
+    print(NULL, key, sizeof key);
+    return 0;
+}
+
+static int session_keys(char **word) {
+    struct bytes ac, smi, smc, cryptogram;
+    uint8_t sk_ac[32], counters[32], sk_smi[32], sk_smc[32], r;
+    uint16_t counter;
+    if (hexadecimal(word[0], &ac) || hexadecimal(word[1], &smi) || hexadecimal(word[2], &smc)) return 1;
+    if (counter_of(word[3], &counter) || hexadecimal(word[4], &cryptogram)) return 1;
+    r = box_session_key(ac.at, ac.length, counter, sk_ac, sizeof sk_ac);
+    if (r == 0) r = box_counter_key(sk_ac, sizeof sk_ac, counters, sizeof counters);
+    if (r == 0) r = box_script_key(smi.at, smi.length, cryptogram.at, cryptogram.length, sk_smi, sizeof sk_smi);
+    if (r == 0) r = box_script_key(smc.at, smc.length, cryptogram.at, cryptogram.length, sk_smc, sizeof sk_smc);
+    if (r != 0) return refused(r);
+    print("SK-AC", sk_ac, sizeof sk_ac);
+    print("SK-counters", counters, sizeof counters);
+    print("SK-SMI", sk_smi, sizeof sk_smi);
+    print("SK-SMC", sk_smc, sizeof sk_smc);
+    return 0;
+}
+
+/* Prints the header and the message that a command's data are wrapped in. */
+static int script(const char *key, uint8_t instruction, uint8_t p2, uint8_t tag, const uint8_t *data, size_t length) {
+    struct bytes smi;
+    uint8_t header[4], message[MESSAGE], r;
+    header[0] = 0x84;
+    header[1] = instruction;
+    header[2] = 0x00;
+    header[3] = p2;
+    if (hexadecimal(key, &smi)) return 1;
+    r = box_wrap(smi.at, smi.length, header, sizeof header, tag, data, length, message, sizeof message, 0);
+    if (r != 0) return refused(r);
+    print("header", header, sizeof header);
+    print("message", message, length + 8);
+    return 0;
+}
+
+static int change_pin(char **word) {
+    struct bytes smc, pin;
+    uint8_t block[8], enciphered[8], r;
+    if (hexadecimal(word[1], &smc) || decimal(word[2], &pin)) return 1;
+    r = box_write_pin(pin.at, pin.length, block, sizeof block);
+    if (r == 0) r = box_encipher(smc.at, smc.length, block, sizeof block, enciphered, sizeof enciphered);
+    if (r != 0) return refused(r);
+    return script(word[0], 0x24, 0x02, 0x87, enciphered, sizeof enciphered);
+}
+
+static int open_message(char **word) {
+    struct bytes smi, header, message;
+    uint8_t found[3], r;
+    if (hexadecimal(word[0], &smi) || hexadecimal(word[1], &header) || hexadecimal(word[2], &message)) return 1;
+    r = box_open(smi.at, smi.length, header.at, header.length, message.at, message.length, found, sizeof found);
+    if (r != 0) return refused(r);
+    print("tag", found, 1);
+    print("data", message.at + found[1], found[2]);
+    return 0;
+}
+
+static int arpc(char **word) {
+    struct bytes key, cryptogram, csu;
+    uint8_t answer[8], r;
+    if (hexadecimal(word[0], &key) || hexadecimal(word[1], &cryptogram) || hexadecimal(word[2], &csu)) return 1;
+    r = box_arpc(key.at, key.length, cryptogram.at, cryptogram.length, csu.at, csu.length, answer, sizeof answer);
+    if (r != 0) return refused(r);
+    print(NULL, answer, sizeof answer);
+    return 0;
+}
+
+static int idn(char **word) {
+    struct bytes key;
+    uint8_t answer[8], length = number(word[2]), r;
+    uint16_t counter;
+    if (hexadecimal(word[0], &key) || counter_of(word[1], &counter)) return 1;
+    if (length > sizeof answer) return refused(1);
+    r = box_idn(key.at, key.length, counter, answer, length);
+    if (r != 0) return refused(r);
+    print(NULL, answer, length);
+    return 0;
+}
+
+int main(int argc, char **argv) {
+    const char *command = argc > 1 ? argv[1] : "--help";
+    char **word = argv + 2;
+    int words = argc - 2;
+    if (!strcmp(command, "--help") || !strcmp(command, "help")) {
+        fputs(help, stdout);
+        return 0;
+    }
+    if (!strcmp(command, "card-key") && (words == 2 || words == 3)) return card_key(word, words, 0);
+    if (!strcmp(command, "card-key-packed") && (words == 2 || words == 3)) return card_key(word, words, 1);
+    if (!strcmp(command, "session-keys") && words == 5) return session_keys(word);
+    if (!strcmp(command, "change-pin") && words == 3) return change_pin(word);
+    if (!strcmp(command, "block") && words == 1) return script(word[0], 0x1e, 0x00, 0x81, NULL, 0);
+    if (!strcmp(command, "unblock") && words == 1) return script(word[0], 0x18, 0x00, 0x81, NULL, 0);
+    if (!strcmp(command, "open") && words == 3) return open_message(word);
+    if (!strcmp(command, "arpc") && words == 3) return arpc(word);
+    if (!strcmp(command, "idn") && words == 3) return idn(word);
+    return misused("no such command, or not its number of words", command);
+}

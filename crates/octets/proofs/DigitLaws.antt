@@ -1,14 +1,14 @@
 -- The turns of the loop that looks at digits and fillers; hexadecimal digits. Assumes nothing.
 use Prim.Native.Nat.{ℕ, zero, suc, _+_, _-_, _≤_, _<_, zero-le, suc-le-suc}
-use native.Mathlib.Nat.{not-suc-le-zero, le-of-suc-le-suc}
+use native.Mathlib.Nat.{not-suc-le-zero, le-of-suc-le-suc, sub-zero, suc-sub-suc}
 use native.Mathlib.Numerals.{add-one, sub-one}
-use mathlib.Core.Path.{_≡_, refl, sym, ap, _∙_}
-use mathlib.Core.Bool.{true, false, and-eq-true-iff}
-use mathlib.Core.List.{List, [], _∷_}
-use lib.ListN.{length, getD, drop, replicate, drop-of-length-le}
+use mathlib.Core.Path.{_≡_, refl, sym, ap, ap₂, _∙_}
+use mathlib.Core.Bool.{true, false, and-eq-true-iff, false≢true}
+use mathlib.Core.List.{List, [], _∷_, _++_}
+use lib.ListN.{length, getD, take, drop, replicate, drop-of-length-le}
 use lib.Seq.{drop-cons}
 use lib.Dec.{leb, eqb, eqb·suc-zero, eqb→eq}
-use borrow.Author.Tests.{eq-eqb, ne-eqb, le-leb, lt-leb, leb-true}
+use borrow.Author.Tests.{eq-eqb, ne-eqb, le-leb, lt-leb, leb-true, eqb-true}
 use Rattle.octets.specs.Digits.{digits, hexDigit, hexValue}
 use Rattle.octets.proofs.Table.{at}
 
@@ -58,6 +58,34 @@ pub digits-all : (f : ℕ) (s : List ℕ) → ((i : ℕ) → i < length s → ge
 unfolding digits
 digits-all f [] h = refl
 digits-all f (x ∷ s) h = rw (le-leb x 9 (h zero (suc-le-suc zero-le))) (digits-all f s (λ i l. h (suc i) (suc-le-suc l)))
+
+-- there are as many places as digits
+pub digits-length : (f n : ℕ) (s : List ℕ) → digits f n s ≡ true → n ≤ length s
+unfolding digits
+digits-length f zero s t = zero-le
+digits-length f (suc n) [] t = absurd (false≢true t)
+digits-length f (suc n) (x ∷ s) t = suc-le-suc (digits-length f n s (and-eq-true-iff (leb x 9) (digits f n s) .0 t .1))
+
+-- the list is the digits, and then the fillers
+pub digits-filled : (f n : ℕ) (s : List ℕ) → digits f n s ≡ true → s ≡ take n s ++ replicate (length s - n) f
+unfolding digits
+digits-filled f zero [] t = refl
+digits-filled f (suc n) [] t = absurd (false≢true t)
+digits-filled f zero (x ∷ s) t =
+    let q = and-eq-true-iff (eqb x f) (digits f 0 s) .0 t in
+    rw sub-zero (ap₂ {C = List ℕ} (λ y l. y ∷ l) (eqb-true x f (q .0)) (simp sub-zero at (digits-filled f zero s (q .1))))
+digits-filled f (suc n) (x ∷ s) t =
+    rw suc-sub-suc (ap {B = List ℕ} (λ l. x ∷ l) (digits-filled f n s (and-eq-true-iff (leb x 9) (digits f n s) .0 t .1)))
+
+-- the same digits with other fillers after them
+pub digits-refilled : (f g n k : ℕ) (s : List ℕ) → digits f n s ≡ true → digits g n (take n s ++ replicate k g) ≡ true
+unfolding digits
+digits-refilled f g zero zero s t = refl
+digits-refilled f g zero (suc k) s t = rw (eq-eqb g g refl) (digits-refilled f g zero k s t)
+digits-refilled f g (suc n) k [] t = absurd (false≢true t)
+digits-refilled f g (suc n) k (x ∷ s) t =
+    let q = and-eq-true-iff (leb x 9) (digits f n s) .0 t in
+    rw (q .0) (digits-refilled f g n k s (q .1))
 
 -- a digit that was written is read back
 pub hexValue-hexDigit : (n : ℕ) → n < 16 → hexValue (hexDigit n) ≡ n

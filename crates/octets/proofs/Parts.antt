@@ -103,7 +103,11 @@ zeros-at zero j = refl
 zeros-at (suc n) zero = refl
 zeros-at (suc n) (suc j) = zeros-at n j
 
+-- what is left of a run of one element
+pub drop-replicate : (n k a : ℕ) → drop n (replicate k a) ≡ replicate (k - n) a
+drop-replicate zero k a = ap (λ (j : ℕ). replicate j a) (sym (sub-zero k))
+drop-replicate (suc n) zero a = ap (λ (j : ℕ). replicate j a) (sym (zero-sub (suc n)))
+drop-replicate (suc n) (suc k) a = drop-replicate n k a ∙ ap (λ (j : ℕ). replicate j a) (sym (suc-sub-suc k n))
+
 pub drop-zeros : (n k : ℕ) → drop n (zeros k) ≡ zeros (k - n)
-drop-zeros zero k = ap zeros (sym (sub-zero k))
-drop-zeros (suc n) zero = ap zeros (sym (zero-sub (suc n)))
-drop-zeros (suc n) (suc k) = drop-zeros n k ∙ ap zeros (sym (suc-sub-suc k n))
+drop-zeros n k = drop-replicate n k 0

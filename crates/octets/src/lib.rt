@@ -3,7 +3,7 @@ ghost use mathlib.Core.Path.{_≡_};
 ghost use mathlib.Core.List.{[], _∷_};
 ghost use Prim.Native.Nat.{_%_};
 ghost use lib.ListN.{getD};
-ghost use Rattle.octets.specs.Numbers.{le, leOctets};
+ghost use Rattle.octets.specs.Numbers.{le, leOctets, be, beOctets};
 ghost use Rattle.octets.specs.Same.{same as alike};
 ghost use Rattle.octets.specs.Digits.{digits as areDigits, hexDigit, hexOctet, hexValue};
 
@@ -27,6 +27,20 @@ pub fn word_octets(x: u32) -> [u8; 4]
         (x2 % 256) as u8,
         (x3 % 256) as u8,
     ]
+}
+
+// The number of two octets, high first.
+pub fn high_low(high: u8, low: u8) -> u16
+    ensures { λ r. ⌜ r ≡ be (high ∷ low ∷ []) ⌝ }
+{
+    256 * high as u16 + low as u16
+}
+
+// The two octets of a number of 16 bits, high first.
+pub fn high_first(x: u16) -> [u8; 2]
+    ensures { λ r. ⌜ r ≡ beOctets 2 x ⌝ }
+{
+    [(x / 256 % 256) as u8, (x % 256) as u8]
 }
 
 // Octet i modulo 8 of a word of 64 bits, least significant first.

@@ -1,0 +1,64 @@
+-- What the entry points answer, test by test. Assumes nothing.
+use mathlib.Core.Path.{_≡_, refl, sym, ap, _∙_}
+use mathlib.Core.Bool.{and-false}
+use mathlib.Core.List.{List}
+use Prim.Native.Nat.{ℕ}
+use native.Mathlib.Omega.{arith}
+use borrow.Author.Tests.{eq-eqb, ne-eqb}
+use lib.ListN.{length}
+use Rattle.cipher.specs.declared.CodeAnswer.{CodeAnswer}
+use Rattle.cipher.specs.Gost.{subkeys}
+use Rattle.cipher.specs.Answers.{keyFits, coded, codedWith}
+use Rattle.cipher.proofs.AnswerLaws.{string-fits, code-key}
+use Rattle.cryptogram.specs.declared.Kind.{Kind}
+use Rattle.cryptogram.specs.declared.Kind.the-variants.{Arqc, Tc, Aac}
+use Rattle.cryptogram.specs.declared.KindRead.the-variants.{Known}
+use Rattle.cryptogram.specs.Cryptogram.{twice, doubleCode, cryptogramOf, arpcOf}
+use Rattle.cryptogram.specs.Answers.{yes, no, cryptogramAnswer, arpcAnswer, kindNumber, kindOf}
+use Rattle.cryptogram.proofs.DataLaws.{data-length}
+
+-- the code of 72 bytes comes with no refusal
+module _ (ks s : List ℕ) (e : length s ≡ 72) where
+  pub code-twice-with : (r : CodeAnswer) → r ≡ codedWith ks s → twice (r .bytes) ≡ doubleCode ks s
+  unfolding doubleCode
+  code-twice-with r w = ap (λ (a : CodeAnswer). twice (a .bytes)) (w ∙ sym (string-fits ks s (λ z. omega arith) (omega arith)))
+
+pub code-twice : (key s : List ℕ) → length key ≡ 32 → length s ≡ 72 → (r : CodeAnswer) → r ≡ coded key s → twice (r .bytes) ≡ doubleCode (subkeys 8 key) s
+code-twice key s k e r w = code-twice-with (subkeys 8 key) s e r (w ∙ sym (code-key key s k))
+
+module _ (key : List ℕ) (kind : Kind) (atc : ℕ) (d : List ℕ) where
+  pub no-key : (length key ≡ 32 → ⊥) → no ≡ cryptogramAnswer key kind atc d
+  unfolding cryptogramAnswer keyFits
+  no-key h = simp (ne-eqb _ _ h)
+
+  pub no-data : (length d ≡ 65 → ⊥) → no ≡ cryptogramAnswer key kind atc d
+  unfolding cryptogramAnswer
+  no-data h = simp (data-length, ne-eqb _ _ h, and-false)
+
+  pub made : length key ≡ 32 → length d ≡ 65 → yes (cryptogramOf (subkeys 8 key) kind atc d) ≡ cryptogramAnswer key kind atc d
+  unfolding cryptogramAnswer keyFits
+  made k e = simp (data-length, eq-eqb _ _ k, eq-eqb _ _ e)
+
+module _ (key c u : List ℕ) where
+  pub arpc-no-key : (length key ≡ 32 → ⊥) → no ≡ arpcAnswer key c u
+  unfolding arpcAnswer keyFits
+  arpc-no-key h = simp (ne-eqb _ _ h)
+
+  pub arpc-no-cryptogram : (length c ≡ 8 → ⊥) → no ≡ arpcAnswer key c u
+  unfolding arpcAnswer
+  arpc-no-cryptogram h = simp (ne-eqb _ _ h, and-false)
+
+  pub arpc-no-csu : (length u ≡ 4 → ⊥) → no ≡ arpcAnswer key c u
+  unfolding arpcAnswer
+  arpc-no-csu h = simp (ne-eqb _ _ h, and-false)
+
+  pub arpc-made : length key ≡ 32 → length c ≡ 8 → length u ≡ 4 → yes (arpcOf (subkeys 8 key) c u) ≡ arpcAnswer key c u
+  unfolding arpcAnswer keyFits
+  arpc-made k e f = simp (eq-eqb _ _ k, eq-eqb _ _ e, eq-eqb _ _ f)
+
+-- the number of a kind is read back
+pub kind-read : (kind : Kind) → kindOf (kindNumber kind) ≡ Known kind
+unfolding kindOf kindNumber
+kind-read Arqc = refl
+kind-read Tc = refl
+kind-read Aac = refl

@@ -1,0 +1,67 @@
+-- The places that table 1 gives, and the strings under the codes. Assumes nothing.
+use mathlib.Core.Path.{_≡_, refl, sym, ap, ap₂, _∙_}
+use mathlib.Core.List.{List, [], _∷_, _++_}
+use Prim.Native.Nat.{ℕ}
+use native.Mathlib.Omega.{arith}
+use lib.ListN.{length, getD, set, replicate, List·getD-append, length-set}
+use lib.Seq.{set-append-left, getD-set-other}
+use Rattle.octets.specs.Numbers.{beOctets}
+use Rattle.octets.proofs.Parts.{elements-all}
+use Rattle.cryptogram.specs.declared.Kind.{Kind}
+use Rattle.cryptogram.specs.Data.{width, widths, beforeCounter, counterPlace, issuerPlace, dataLength, kindPlace, marked, cardData}
+use Rattle.cryptogram.specs.Cryptogram.{twice, string, arpcString}
+
+-- 01: "its own counter at offsets 31 and 32", the kind "at offset 36", of 65 data bytes
+pub counter-place : counterPlace ≡ 31
+unfolding counterPlace widths width beforeCounter
+counter-place = refl
+
+pub kind-place : kindPlace ≡ 36
+unfolding kindPlace issuerPlace counterPlace widths width beforeCounter
+kind-place = refl
+
+pub data-length : dataLength ≡ 65
+unfolding dataLength issuerPlace counterPlace widths width beforeCounter
+data-length = refl
+
+-- stores in the data, made in the string
+module _ (d p : List ℕ) (e : length d ≡ 65) (x y : ℕ) where
+  inside : (m : ℕ) → set (set (set (d ++ p) 31 x) 32 y) 36 m ≡ set (set (set d 31 x) 32 y) 36 m ++ p
+  inside m =
+      let a : length (set d 31 x) ≡ 65 = length-set d 31 x ∙ e in
+      let b : length (set (set d 31 x) 32 y) ≡ 65 = length-set (set d 31 x) 32 y ∙ a in
+      ap (λ (s : List ℕ). set (set s 32 y) 36 m) (set-append-left d p 31 x (omega arith))
+      ∙ ap (λ (s : List ℕ). set s 36 m) (set-append-left (set d 31 x) p 32 y (omega arith))
+      ∙ set-append-left (set (set d 31 x) 32 y) p 36 m (omega arith)
+
+  kept : getD (set (set (d ++ p) 31 x) 32 y) 36 0 ≡ getD d 36 0
+  kept =
+      getD-set-other (set (d ++ p) 31 x) 32 36 y 0 (λ z. omega arith)
+      ∙ getD-set-other (d ++ p) 31 36 x 0 (λ z. omega arith)
+      ∙ List·getD-append d p 0 36 (omega arith)
+
+-- the string, from the padded data s and the octets c of the counter
+pub string-made : (kind : Kind) (atc : ℕ) (d : List ℕ) → length d ≡ 65 → (c : List ℕ) → c ≡ beOctets 2 atc → (s : List ℕ) → s ≡ d ++ 0x80 ∷ replicate 6 0
+    → (m : ℕ) → m ≡ marked kind (getD (set (set s 31 (getD c 0 0)) 32 (getD c 1 0)) 36 0)
+    → set (set (set s 31 (getD c 0 0)) 32 (getD c 1 0)) 36 m ≡ string kind atc d
+unfolding string cardData kindPlace issuerPlace counterPlace widths width beforeCounter
+string-made kind atc d e c ec s es m em =
+    let p : List ℕ = 0x80 ∷ replicate 6 0 in
+    let x = getD c 0 0 in
+    let y = getD c 1 0 in
+    let k : m ≡ marked kind (getD d 36 0) = em ∙ ap (λ (t : List ℕ). marked kind (getD (set (set t 31 x) 32 y) 36 0)) es ∙ ap (marked kind) (kept d p e x y) in
+    ap₂ (λ (t : List ℕ) (v : ℕ). set (set (set t 31 x) 32 y) 36 v) es k
+    ∙ inside d p e x y (marked kind (getD d 36 0))
+    ∙ ap (λ (t : List ℕ). set (set (set d 31 (getD t 0 0)) 32 (getD t 1 0)) 36 (marked kind (getD d 36 0)) ++ p) ec
+
+-- the string under an ARPC, element by element
+pub arpc-made : (c u : List ℕ) → length c ≡ 8 → length u ≡ 4
+    → (getD c 0 0 ∷ getD c 1 0 ∷ getD c 2 0 ∷ getD c 3 0 ∷ getD c 4 0 ∷ getD c 5 0 ∷ getD c 6 0 ∷ getD c 7 0 ∷ [])
+    ++ (getD u 0 0 ∷ getD u 1 0 ∷ getD u 2 0 ∷ getD u 3 0 ∷ []) ++ replicate 4 0 ++ 0x80 ∷ replicate 55 0 ≡ arpcString c u
+unfolding arpcString
+arpc-made c u ec eu = ap₂ (λ (x y : List ℕ). x ++ y ++ replicate 4 0 ++ 0x80 ∷ replicate 55 0) (sym (elements-all c 8 ec)) (sym (elements-all u 4 eu))
+
+pub twice-made : (c : List ℕ) → length c ≡ 4
+    → getD c 0 0 ∷ getD c 1 0 ∷ getD c 2 0 ∷ getD c 3 0 ∷ getD c 0 0 ∷ getD c 1 0 ∷ getD c 2 0 ∷ getD c 3 0 ∷ [] ≡ twice c
+unfolding twice
+twice-made c e = sym (ap twice (elements-all c 4 e))

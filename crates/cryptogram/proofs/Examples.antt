@@ -1,0 +1,16 @@
+-- The worked example of 01 for the kind of a cryptogram (P11). Assumes nothing.
+use mathlib.Core.Path.{_≡_, refl}
+use mathlib.Core.List.{[], _∷_}
+use Prim.Native.Nat.{ℕ}
+use lib.ListN.{getD, set, replicate}
+use Rattle.cryptogram.specs.declared.Kind.{Kind}
+use Rattle.cryptogram.specs.declared.Kind.the-variants.{Arqc, Tc, Aac}
+use Rattle.cryptogram.specs.Data.{width, widths, beforeCounter, counterPlace, issuerPlace, kindPlace, kindBits, marked, cardData}
+
+-- what the card makes of data that hold 25 at offset 36
+abbrev at36 : Kind → ℕ
+at36 kind = getD (cardData kind 1 (set (replicate 65 0) 36 0x25)) 36 0
+
+pub P11 : at36 Arqc ∷ at36 Tc ∷ at36 Aac ∷ [] ≡ 0xa5 ∷ 0x95 ∷ 0x85 ∷ []
+unfolding cardData marked kindBits kindPlace issuerPlace counterPlace widths width beforeCounter
+P11 = refl

@@ -1,0 +1,32 @@
+use mathlib.Core.Path.{ap, _∙_}
+use denote.Ref.{now}
+use Rattle.cipher.specs.Gost.{subkeys}
+use Rattle.cryptogram.specs.Cryptogram.{doubleCode, arpcOf}
+use Rattle.cryptogram.specs.Answers.{yes, no}
+use Rattle.cryptogram.proofs.AnswerLaws.{arpc-no-key, arpc-no-cryptogram, arpc-no-csu, arpc-made}
+use borrow.Author.Needs.{needs}
+use Rattle.cryptogram.proofs.arpc.Statement.{statement}
+use Rattle.cryptogram.proofs.arpc.Tie as tie
+
+returns : tie.Need-returns
+unfolding no
+returns c = search arpc-no-key
+
+returns-2 : tie.Need-returns-2
+unfolding no
+returns-2 c = search arpc-no-cryptogram
+
+returns-3 : tie.Need-returns-3
+unfolding no
+returns-3 c = search arpc-no-csu
+
+returns-4 : tie.Need-returns-4
+unfolding yes arpcOf
+returns-4 c =
+    let x = c .before .before .before .before .before .before .before .before .args in
+    ap yes (c .double-code .ensures ∙ ap (doubleCode (subkeys 8 (now (x .key)))) (c .before .arpc-string .ensures)) ∙ search arpc-made
+
+pub arpc-spec : {M : Type 1} → statement M
+arpc-spec =
+    tie.close
+    (tie.spec returns returns-2 returns-3 (λ c κs. search needs) (λ c κs. search needs) returns-4)

@@ -1,0 +1,43 @@
+-- What the entry points answer, for every input: 0 and the cryptogram, or refusal 1 of 01 and zeros. Assumes nothing.
+use Prim.Native.Nat.{ℕ}
+use mathlib.Core.Bool.{_&&_, cond}
+use mathlib.Core.List.{List}
+use lib.Dec.{eqb}
+use lib.ListN.{length, replicate}
+use Rattle.cipher.specs.Gost.{subkeys}
+use Rattle.cipher.specs.Answers.{keyFits}
+use Rattle.cryptogram.specs.declared.Answer.{Answer}
+use Rattle.cryptogram.specs.declared.Kind.{Kind}
+use Rattle.cryptogram.specs.declared.Kind.the-variants.{Arqc, Tc, Aac}
+use Rattle.cryptogram.specs.declared.KindRead.{KindRead}
+use Rattle.cryptogram.specs.declared.KindRead.the-variants.{Known, Unknown}
+use Rattle.cryptogram.specs.Data.{dataLength}
+use Rattle.cryptogram.specs.Cryptogram.{cryptogramOf, arpcOf}
+
+unfoldable pub yes : List ℕ → Answer
+yes b = record { code = 0; bytes = b }
+
+unfoldable pub no : Answer
+no = record { code = 1; bytes = replicate 8 0 }
+
+unfoldable pub cryptogramAnswer : List ℕ → Kind → ℕ → List ℕ → Answer
+cryptogramAnswer key kind atc d = cond (keyFits key && eqb (length d) dataLength) (yes (cryptogramOf (subkeys 8 key) kind atc d)) no
+
+unfoldable pub arpcAnswer : List ℕ → List ℕ → List ℕ → Answer
+arpcAnswer key cryptogram csu =
+    cond (keyFits key && (eqb (length cryptogram) 8 && eqb (length csu) 4)) (yes (arpcOf (subkeys 8 key) cryptogram csu)) no
+
+-- a kind's number, as a card tells it to a terminal: 80 ARQC, 40 TC, 00 AAC
+unfoldable pub kindNumber : Kind → ℕ
+kindNumber Arqc = 0x80
+kindNumber Tc = 0x40
+kindNumber Aac = 0x00
+
+unfoldable pub kindOf : ℕ → KindRead
+kindOf n =
+    cond (eqb n (kindNumber Arqc)) (Known Arqc) (cond (eqb n (kindNumber Tc)) (Known Tc) (cond (eqb n (kindNumber Aac)) (Known Aac) Unknown))
+
+-- 01, refusal 1: an unknown kind
+unfoldable pub kindCode : KindRead → ℕ
+kindCode (Known kind) = 0
+kindCode Unknown = 1

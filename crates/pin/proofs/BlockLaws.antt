@@ -1,0 +1,131 @@
+-- Half-bytes and bytes, what the tests of a PIN and of a block say, and the loops over half-bytes. Assumes nothing.
+use mathlib.Core.Path.{_≡_, refl, sym, ap, ap₂, _∙_}
+use mathlib.Core.Bool.{Bool, true, false, _&&_, and-false, and-eq-true-iff}
+use mathlib.Core.List.{List, [], _∷_, _++_, map}
+use Prim.Native.Nat.{ℕ, zero, suc, _+_, _-_, _%_, _≤_, _<_, suc-le-suc, zero-le}
+use native.Mathlib.Omega.{arith}
+use borrow.Author.Tests.{eqb-true, leb-true, eq-eqb, ne-eqb, le-leb, lt-leb}
+use lib.Dec.{leb, eqb}
+use lib.ListN.{length, getD, take, drop, replicate, length-append, length-replicate}
+use lib.Seq.{paste, take-all, drop-drop}
+use Rattle.octets.specs.Numbers.{Octets}
+use Rattle.octets.specs.Digits.{digits}
+use Rattle.octets.proofs.DigitLaws.{digits-at}
+use Rattle.octets.proofs.Parts.{elements-all, drop-replicate}
+use Rattle.pin.specs.PinBlock.{pinFits, joined, halves, fields, wellFormed}
+
+-- ---- what the tests say
+
+pub record Fits (f n : ℕ) (s : List ℕ) : Type 0 where
+  pub least : 4 ≤ n
+  pub most : n ≤ 12
+  pub all : digits f n s ≡ true
+
+module _ (f n : ℕ) (s : List ℕ) where
+  pub fits : pinFits f n s ≡ true → Fits f n s
+  unfolding pinFits
+  fits t =
+      let a = and-eq-true-iff (leb 4 n) (leb n 12 && digits f n s) .0 t in
+      let b = and-eq-true-iff (leb n 12) (digits f n s) .0 (a .1) in
+      record { least = leb-true 4 n (a .0); most = leb-true n 12 (b .0); all = b .1 }
+
+  pub too-few : n < 4 → false ≡ pinFits f n s
+  unfolding pinFits
+  too-few h = simp (lt-leb _ _ h)
+
+  pub too-many : 12 < n → false ≡ pinFits f n s
+  unfolding pinFits
+  too-many h = simp (lt-leb _ _ h, and-false)
+
+  pub by-digits : 4 ≤ n → n ≤ 12 → (t : Bool) → t ≡ digits f n s → t ≡ pinFits f n s
+  unfolding pinFits
+  by-digits l m t e = e ∙ sym (simp (le-leb _ _ l, le-leb _ _ m))
+
+pub record Formed (h : List ℕ) : Type 0 where
+  pub control : getD h 0 0 ≡ 2
+  pub pin : Fits 15 (getD h 1 0) (drop 2 h)
+
+module _ (h : List ℕ) where
+  pub formed : wellFormed h ≡ true → Formed h
+  unfolding wellFormed
+  formed t =
+      let a = and-eq-true-iff (eqb (getD h 0 0) 2) (pinFits 15 (getD h 1 0) (drop 2 h)) .0 t in
+      record { control = eqb-true _ _ (a .0); pin = fits 15 (getD h 1 0) (drop 2 h) (a .1) }
+
+  pub no-control : (getD h 0 0 ≡ 2 → ⊥) → false ≡ wellFormed h
+  unfolding wellFormed
+  no-control e = simp (ne-eqb _ _ e)
+
+  pub by-pin : length h ≡ 16 → getD h 0 0 ≡ 2 → (t : Bool) → t ≡ pinFits 15 (getD h 1 0) (take 14 (drop 2 h)) → t ≡ wellFormed h
+  unfolding wellFormed
+  by-pin l e t w =
+      w ∙ ap (pinFits 15 (getD h 1 0)) (ap (λ (s : List ℕ). take 14 (drop 2 s)) (elements-all h 16 l) ∙ sym (ap (drop 2) (elements-all h 16 l)))
+      ∙ sym (simp (eq-eqb _ _ e))
+
+-- ---- half-bytes
+
+abbrev pub Small : List ℕ → Type 0
+Small s = (i : ℕ) → getD s i 0 < 16
+
+pub small-kept : (s : List ℕ) → Small s → map (λ x. x % 16) s ≡ s
+small-kept [] h = refl
+small-kept (x ∷ s) h = let l : x < 16 = h zero in ap₂ {C = List ℕ} (λ y t. y ∷ t) (omega arith) (small-kept s (λ i. h (suc i)))
+
+small-run : (k : ℕ) → Small (replicate k 15)
+small-run zero i = omega arith
+small-run (suc k) zero = omega arith
+small-run (suc k) (suc i) = small-run k i
+
+small-filled : (s : List ℕ) (k : ℕ) → ((i : ℕ) → i < length s → getD s i 0 ≤ 9) → Small (s ++ replicate k 15)
+small-filled [] k h i = small-run k i
+small-filled (x ∷ s) k h zero = omega (arith, h zero (suc-le-suc zero-le))
+small-filled (x ∷ s) k h (suc i) = small-filled s k (λ j l. h (suc j) (suc-le-suc l)) i
+
+module _ (pin : List ℕ) where
+  pub length-fields : length pin ≤ 12 → length (fields pin) ≡ 16
+  unfolding fields
+  length-fields h = simp (length-append, length-replicate) (omega arith)
+
+  pub small-fields : Fits 0 (length pin) pin → Small (fields pin)
+  unfolding fields
+  small-fields f zero = omega arith
+  small-fields f (suc zero) = omega (arith, f .most)
+  small-fields f (suc (suc i)) = small-filled pin (14 - length pin) (digits-at 0 (length pin) pin (f .all)) i
+
+  -- the loop that puts the digits in
+  pub fields-made : paste (2 ∷ length pin ∷ replicate 14 15) 2 pin (length pin) ≡ fields pin
+  unfolding fields
+  fields-made =
+      ap₂ {C = List ℕ} (λ x y. 2 ∷ length pin ∷ (x ++ y)) (take-all (length pin) pin (omega arith))
+      (sym (drop-drop (length pin) 2 (2 ∷ length pin ∷ replicate 14 15)) ∙ drop-replicate (length pin) 14 15)
+
+-- an even number of half-bytes is read back from its bytes, which are octets and half as many
+pub halves-joined : (s : List ℕ) (k : ℕ) → length s ≡ k + k → Small s → halves (joined s) ≡ s
+unfolding halves joined
+halves-joined [] k e h = refl
+halves-joined (x ∷ []) k e h = let z : 1 ≡ k + k = e in absurd (omega arith)
+halves-joined (x ∷ y ∷ s) zero e h = let z : suc (suc (length s)) ≡ 0 = e in absurd (omega arith)
+halves-joined (x ∷ y ∷ s) (suc k) e h =
+    let z : suc (suc (length s)) ≡ suc k + suc k = e in
+    let l : y < 16 = h 1 in
+    ap₂ {C = List ℕ} (λ a t. a ∷ t) (omega arith)
+    (ap₂ {C = List ℕ} (λ a t. a ∷ t) (omega arith) (halves-joined s k (omega arith) (λ i. h (suc (suc i)))))
+
+pub length-joined : (s : List ℕ) (k : ℕ) → length s ≡ k + k → length (joined s) ≡ k
+unfolding joined
+length-joined [] k e = let z : 0 ≡ k + k = e in omega arith
+length-joined (x ∷ []) k e = let z : 1 ≡ k + k = e in absurd (omega arith)
+length-joined (x ∷ y ∷ s) zero e = let z : suc (suc (length s)) ≡ 0 = e in absurd (omega arith)
+length-joined (x ∷ y ∷ s) (suc k) e = let z : suc (suc (length s)) ≡ suc k + suc k = e in ap suc (length-joined s k (omega arith))
+
+pub octets-joined : (s : List ℕ) → Small s → Octets (joined s)
+unfolding joined
+octets-joined [] h i = omega arith
+octets-joined (x ∷ []) h i = omega arith
+octets-joined (x ∷ y ∷ s) h zero = let a : x < 16 = h 0 in let b : y < 16 = h 1 in omega arith
+octets-joined (x ∷ y ∷ s) h (suc i) = octets-joined s (λ j. h (suc (suc j))) i
+
+pub joined-halves : (b : List ℕ) → joined (halves b) ≡ b
+unfolding joined halves
+joined-halves [] = refl
+joined-halves (x ∷ b) = ap₂ {C = List ℕ} (λ y t. y ∷ t) (omega arith) (joined-halves b)

@@ -1,0 +1,5 @@
+pub mod BlockLaws
+pub mod AnswerLaws
+pub mod CounterLaws
+pub mod Inverse
+pub mod Examples

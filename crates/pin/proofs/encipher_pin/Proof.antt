@@ -1,0 +1,39 @@
+use mathlib.Core.Path.{sym, ap, _∙_}
+use denote.Ref.{now}
+use borrow.Author.Tests.{not-false}
+use Rattle.cipher.specs.Answers.{enciphered}
+use Rattle.pin.specs.Answers.{noBlock, written}
+use Rattle.pin.proofs.AnswerLaws.{encipher-no-key, encipher-no-digits, encipher-yes}
+use borrow.Author.Needs.{needs}
+use Rattle.pin.proofs.encipher_pin.Statement.{statement}
+use Rattle.pin.proofs.encipher_pin.Tie as tie
+
+returns : tie.Need-returns
+unfolding noBlock
+returns c = search encipher-no-key
+
+returns-2 : tie.Need-returns-2
+unfolding noBlock
+returns-2 c = search encipher-no-digits
+
+block-of-requires : tie.Need-block-of-requires
+block-of-requires c κs = sym (c .before .pin-fits .ensures) ∙ not-false _ (c .if2 .left)
+
+returns-3 : tie.Need-returns-3
+unfolding written
+returns-3 c =
+    let x = c .before .before .before .before .before .before .before .before .before .args in
+    encipher-yes (now (x .digits)) _ (c .before .before .before .before .before .pin-fits .ensures) (now (x .key)) (c .before .before .before .before .before .before .if1 .left) (c .before .before .before .before .if2 .left)
+    (c .before .encipher .result) (c .before .encipher .ensures ∙ ap (enciphered (now (x .key))) (c .before .before .before .block-of .ensures))
+
+pub encipher-pin-spec : {M : Type 1} → statement M
+encipher-pin-spec =
+    tie.close
+    (tie.spec
+    returns
+    (λ c κs. search needs)
+    returns-2
+    block-of-requires
+    (λ c. search needs)
+    (λ c κs. search needs)
+    returns-3)

@@ -1,0 +1,3 @@
+pub mod PinBlock
+pub mod CounterBlock
+pub mod Answers

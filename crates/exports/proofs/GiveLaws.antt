@@ -1,9 +1,10 @@
 -- An answer given to a lent slice, test by test. Assumes nothing.
 use mathlib.Core.Path.{_≡_, refl, sym, _∙_, subst}
-use mathlib.Core.Bool.{_&&_, cond, and-false}
+use mathlib.Core.Bool.{Bool, true, false, and-false}
 use mathlib.Core.List.{List}
 use Prim.Native.Nat.{ℕ}
-use borrow.Author.Tests.{eq-eqb, ne-eqb}
+use native.Mathlib.Omega.{arith}
+use borrow.Author.Tests.{eq-eqb, ne-eqb, eqb-true, eqb-false}
 use lib.Dec.{eqb}
 use lib.ListN.{length}
 use Rattle.exports.specs.Lent.{numberOf, bytesAfter, Given}
@@ -20,6 +21,14 @@ module _ (n c : ℕ) (x o : List ℕ) where
   pub given-yes : length o ≡ n → c ≡ 0 → (a : List ℕ) → a ≡ x → Given n c x o 0 a
   unfolding numberOf bytesAfter
   given-yes h z a e = record { number = sym z ∙ sym (simp (eq-eqb _ _ h)); slice = e ∙ sym (simp (eq-eqb _ _ h, eq-eqb _ _ z)) }
+
+-- an answer that is 1 and leaves the slice, whatever its length
+pub given-one : (n : ℕ) (x o : List ℕ) → Given n 1 x o 1 o
+given-one n x o = by (eqb (length o) n) refl
+  where
+    by : (t : Bool) → eqb (length o) n ≡ t → Given n 1 x o 1 o
+    by true e = given-refused n 1 x o (eqb-true (length o) n e) (λ z. omega arith)
+    by false e = given-length n 1 x o (eqb-false (length o) n e)
 
 -- what a call answered, given: over the type of the answer, and its number and bytes
 module _ {A : Type 0} (code : A → ℕ) (bytes : A → List ℕ) (n : ℕ) where

@@ -2,13 +2,19 @@
 use Prim.Native.Nat.{ℕ}
 use mathlib.Core.Path.{_≡_}
 use mathlib.Core.Bool.{_&&_, cond}
-use mathlib.Core.List.{List}
+use mathlib.Core.List.{List, _∷_}
 use lib.Dec.{eqb}
 use lib.ListN.{length, take}
 use Rattle.cipher.specs.declared.BlockAnswer.{BlockAnswer}
 use Rattle.cipher.specs.declared.CodeAnswer.{CodeAnswer}
 use Rattle.derive.specs.declared.KeyAnswer.{KeyAnswer}
 use Rattle.keys.specs.declared.IdnAnswer.{IdnAnswer}
+use Rattle.pin.specs.declared.PinBlock.{PinBlock}
+use Rattle.pin.specs.declared.PinRead.{PinRead}
+use Rattle.cryptogram.specs.declared.Answer.{Answer}
+use Rattle.cryptogram.specs.declared.KindRead.{KindRead}
+use Rattle.cryptogram.specs.declared.KindRead.the-variants.{Known, Unknown}
+use Rattle.cryptogram.specs.Answers.{cryptogramAnswer, no}
 
 -- the number returned: 1 for a lent slice that is not n bytes long, else the answer's own
 unfoldable pub numberOf : ℕ → ℕ → List ℕ → ℕ
@@ -36,3 +42,18 @@ GivenCode a lent r after = Given 4 (a .code) (a .bytes) lent r after
 -- an IDN has as many bytes as the slice lent for it
 abbrev pub GivenIdn : IdnAnswer → List ℕ → ℕ → List ℕ → Type 0
 GivenIdn a lent r after = Given (length lent) (a .code) (take (length lent) (a .bytes)) lent r after
+
+abbrev pub GivenPin : PinBlock → List ℕ → ℕ → List ℕ → Type 0
+GivenPin a lent r after = Given 8 (a .code) (a .bytes) lent r after
+
+-- what a PIN block holds: the number of digits, then the twelve places
+abbrev pub GivenRead : PinRead → List ℕ → ℕ → List ℕ → Type 0
+GivenRead a lent r after = Given 13 (a .code) (a .count ∷ a .pin) lent r after
+
+abbrev pub GivenAnswer : Answer → List ℕ → ℕ → List ℕ → Type 0
+GivenAnswer a lent r after = Given 8 (a .code) (a .bytes) lent r after
+
+-- a cryptogram whose kind is named by number: 1 for an unknown one
+unfoldable pub byNumber : List ℕ → KindRead → ℕ → List ℕ → Answer
+byNumber key (Known kind) atc d = cryptogramAnswer key kind atc d
+byNumber key Unknown atc d = no

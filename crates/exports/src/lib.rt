@@ -4,7 +4,10 @@ ghost use lib.ListN.{length};
 ghost use Rattle.cipher.specs.Answers.{enciphered, deciphered, coded};
 ghost use Rattle.derive.specs.Answers.{derivation};
 ghost use Rattle.keys.specs.Answers.{cardKey, cardKeyPacked, sessionKey, scriptKey, counterKey, idnAnswer};
-ghost use Rattle.exports.specs.Lent.{Given, GivenKey, GivenBlock, GivenCode, GivenIdn};
+ghost use Rattle.pin.specs.Answers.{writePin, readPin};
+ghost use Rattle.cryptogram.specs.Answers.{kindOf, arpcAnswer};
+ghost use Rattle.exports.specs.Lent.{Given, GivenKey, GivenBlock, GivenCode, GivenIdn, GivenPin, GivenRead, GivenAnswer, byNumber};
+use cryptogram::KindRead;
 
 // An answer's bytes to the slice lent for them.
 fn give(code: u8, bytes: &[u8], out: &mut [u8]) -> u8
@@ -126,4 +129,63 @@ pub extern "C" fn box_idn(key: &[u8], counter: u16, out: &mut [u8]) -> u8
     let r = keys::idn(key, counter, n as u8);
     let bytes = r.bytes;
     give(r.code, &bytes[..n], out)
+}
+
+// A PIN block in clear of 4 to 12 digits, one a byte. 1: the slice; 12: the PIN.
+#[no_mangle]
+pub extern "C" fn box_write_pin(pin: &[u8], out: &mut [u8]) -> u8
+    ensures { λ r. ⌜ GivenPin (writePin (now (pin .entry))) (now (out .entry)) r (now (out .exit)) ⌝ }
+{
+    let r = pin::write_pin(pin);
+    let bytes = r.bytes;
+    give(r.code, &bytes, out)
+}
+
+// A PIN block in clear, of 8 bytes, taken apart: the number of digits, then twelve places. 1: a length; 9: the format.
+#[no_mangle]
+pub extern "C" fn box_read_pin(block: &[u8], out: &mut [u8]) -> u8
+    ensures { λ r. ⌜ GivenRead (readPin (now (block .entry))) (now (out .entry)) r (now (out .exit)) ⌝ }
+{
+    let r = pin::read_pin(block);
+    let p = r.pin;
+    let bytes = [
+        r.count,
+        p[0],
+        p[1],
+        p[2],
+        p[3],
+        p[4],
+        p[5],
+        p[6],
+        p[7],
+        p[8],
+        p[9],
+        p[10],
+        p[11],
+    ];
+    give(r.code, &bytes, out)
+}
+
+// The cryptogram of 65 data bytes, its kind by number (80 ARQC, 40 TC, 00 AAC). 1: a length or the kind.
+#[no_mangle]
+pub extern "C" fn box_cryptogram(key: &[u8], kind: u8, counter: u16, d: &[u8], out: &mut [u8]) -> u8
+    ensures { λ r. ⌜ GivenAnswer (byNumber (now (key .entry)) (kindOf kind) counter (now (d .entry))) (now (out .entry)) r (now (out .exit)) ⌝ }
+{
+    let read = cryptogram::kind_of(kind);
+    let KindRead::Known(k) = read else {
+        return 1;
+    };
+    let r = cryptogram::cryptogram(key, k, counter, d);
+    let bytes = r.bytes;
+    give(r.code, &bytes, out)
+}
+
+// The issuer's answer to a cryptogram of 8 bytes with a CSU of 4. 1: a length.
+#[no_mangle]
+pub extern "C" fn box_arpc(key: &[u8], cryptogram: &[u8], csu: &[u8], out: &mut [u8]) -> u8
+    ensures { λ r. ⌜ GivenAnswer (arpcAnswer (now (key .entry)) (now (cryptogram .entry)) (now (csu .entry))) (now (out .entry)) r (now (out .exit)) ⌝ }
+{
+    let r = cryptogram::arpc(key, cryptogram, csu);
+    let bytes = r.bytes;
+    give(r.code, &bytes, out)
 }

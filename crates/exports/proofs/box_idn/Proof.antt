@@ -1,24 +1,17 @@
 use denote.Ref.{now}
 use mathlib.Core.Path.{_≡_, refl, sym, subst}
 use Rattle.keys.specs.Answers.{noIdn}
-use Prim.Native.Nat.{ℕ}
-use mathlib.Core.List.{List}
 use native.Mathlib.Omega.{arith}
 use lib.ListN.{length, take}
 use lib.Seq.{length-take-le}
 use Rattle.keys.specs.declared.IdnAnswer.{IdnAnswer}
 use Rattle.keys.proofs.AnswerLaws.{idn-long}
-use Rattle.exports.specs.Lent.{Given, GivenIdn}
+use Rattle.exports.specs.Lent.{Given}
 use Rattle.exports.proofs.GiveLaws.{given, given-refused}
 use borrow.Author.Needs.{needs}
 use Rattle.exports.proofs.box_idn.Statement.{statement}
 use Rattle.exports.proofs.box_idn.Tie as tie
-use Rattle.exports.proofs.box_idn.Reads as reads
-use Rattle.exports.proofs.box_idn.Lts as lts
-use Rattle.exports.proofs.give.Reads as give-reads
-use Rattle.keys.proofs.idn.Reads as idn-reads
 
--- src/lib.rt:124:9
 returns : tie.Need-returns
 unfolding noIdn
 returns c =
@@ -27,36 +20,17 @@ returns c =
     subst (λ (a : IdnAnswer). Given (length o) (a .code) (take (length o) (a .bytes)) o 1 o) (idn-long (now (x .key)) (x .counter) (length o) (c .if1 .taken))
     (given-refused (length o) 1 _ o refl (λ z. omega arith))
 
--- src/lib.rt:126:37
-cast-idn : tie.Need-cast-idn
-cast-idn c = search needs
-
--- src/lib.rt:126:9
-idn-requires : tie.Need-idn-requires
-idn-requires c κs = search needs
-
--- src/lib.rt:128:18
 array-share-prefix-bytes : tie.Need-array-share-prefix-bytes
 array-share-prefix-bytes c =
     let h : length (c .before .idn .result .bytes) ≡ 8 = search needs in
     omega arith
 
--- src/lib.rt:128:18
 slice-aggregate-give : tie.Need-slice-aggregate-give
 slice-aggregate-give c =
     let b = c .before .before .idn .result .bytes in
     let h : length b ≡ 8 = search needs in
     sym (length-take-le _ b (omega arith))
 
--- src/lib.rt:128:5
-give-requires : tie.Need-give-requires
-give-requires c κs = search needs
-
--- src/lib.rt:118:1
-same-length : tie.Need-same-length
-same-length c = search needs
-
--- src/lib.rt:118:1
 returns-2 : tie.Need-returns-2
 returns-2 c =
     let x = c .before .before .before .before .before .before .before .before .before .before .args in
@@ -70,10 +44,10 @@ box-idn-spec =
     tie.close
     (tie.spec
     returns
-    cast-idn
-    idn-requires
+    (λ c. search needs)
+    (λ c κs. search needs)
     array-share-prefix-bytes
     slice-aggregate-give
-    give-requires
-    same-length
+    (λ c κs. search needs)
+    (λ c. search needs)
     returns-2)

@@ -1,9 +1,8 @@
-use mathlib.Core.Path.{_≡_, refl, sym, ap, _∙_}
+use mathlib.Core.Path.{_≡_, refl, ap, _∙_}
 use mathlib.Core.List.{List}
-use Prim.Native.Nat.{ℕ, _-_, _≤_, _<_}
+use Prim.Native.Nat.{ℕ, _-_, _≤_}
 use native.Mathlib.Omega.{arith}
-use borrow.Author.Needs.{needs}
-use lib.ListN.{length, set, getD, length-set}
+use lib.ListN.{length, set, getD}
 use lib.Seq.{paste, paste-zero, length-paste}
 use Rattle.octets.proofs.Parts.{made-turn, made-end}
 use Rattle.exports.proofs.GiveLaws.{given-length, given-refused, given-yes}

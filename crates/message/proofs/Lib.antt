@@ -1,0 +1,6 @@
+pub mod LengthLaws
+pub mod ShapeLaws
+pub mod LaidLaws
+pub mod CommandLaws
+pub mod CodeLaws
+pub mod AnswerLaws

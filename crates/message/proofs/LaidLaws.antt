@@ -35,6 +35,9 @@ module _ (b : List ℕ) (p : ℕ) (s : List ℕ) (h : p + length s ≤ length b)
       (sym (drop-drop (length t) q (take p b ++ s ++ r)) ∙ ap (drop (length t)) (drop-at (take p b ++ s) r q l) ∙ drop-drop (length t) (p + length s) b ∙ ap (λ (k : ℕ). drop k b) n)
       ∙ ap (λ (x : List ℕ). x ++ drop (p + length (s ++ t)) b) (append-assoc (take p b) s t)
 
+pub lent-length : (b : List ℕ) (a : ℕ) → length (take (length b - a) (drop a b)) ≡ length b - a
+lent-length b a = length-take-le (length b - a) (drop a b) (omega (arith, length-drop a b))
+
 -- laid over the part of a buffer from place a on, which is then put back
 pub laid-lent : (b : List ℕ) (a : ℕ) (x : List ℕ) (p : ℕ) (s : List ℕ) → a ≤ length b → x ≡ laid (take (length b - a) (drop a b)) p s
     → putMid a (length b - a) b x ≡ laid b (a + p) s

@@ -4,10 +4,10 @@ ghost use mathlib.Core.Bool.{_&&_, true};
 ghost use mathlib.Core.List.{[], _∷_, _++_};
 ghost use Prim.Native.Nat.{_+_, _≤_};
 ghost use lib.Dec.{eqb};
-ghost use lib.ListN.{length, replicate};
+ghost use lib.ListN.{length, take, replicate};
 ghost use Rattle.octets.specs.Same.{same};
 ghost use Rattle.message.specs.Length.{largest, lengthField, lengthOf, placeOf};
-ghost use Rattle.message.specs.Shape.{tagFits, codeHead, bodySize, sizeOf};
+ghost use Rattle.message.specs.Shape.{tagFits, codeHead, bodySize};
 ghost use Rattle.message.specs.Code.{X, Y, codeFor, given as areGiven, codeFits};
 ghost use Rattle.message.specs.Answers.{shaped, opened, laid, wrapNumber, wrapped, Wrote};
 
@@ -194,15 +194,17 @@ fn write_data(part: &mut [u8], data: &[u8])
     part[place + n + 1] = 0x04;
 }
 
-// Writes a code at a place.
-fn write_code(part: &mut [u8], place: usize, code: [u8; 4])
-    requires { ⌜ place + 4 ≤ length (now part) ⌝ }
-    ensures { λ _. ⌜ now (part .exit) ≡ laid (now (part .entry)) place code ⌝ }
+// Writes the code of what stands before it in a message with n bytes of data.
+fn write_code(part: &mut [u8], key: &[u8], header: &[u8], n: usize)
+    requires { ⌜ (areGiven (now key) (now header) ≡ true) × (n ≤ largest) × (bodySize n + 4 ≤ length (now part)) ⌝ }
+    ensures { λ _. ⌜ now (part .exit) ≡ laid (now (part .entry)) (bodySize n) (codeFor (now (key .entry)) (now (header .entry)) (take (bodySize n) (now (part .entry)))) ⌝ }
 {
-    part[place] = code[0];
-    part[place + 1] = code[1];
-    part[place + 2] = code[2];
-    part[place + 3] = code[3];
+    let k = place_of(n) + n + 2;
+    let code = code_for(key, header, &part[..k]);
+    part[k] = code[0];
+    part[k + 1] = code[1];
+    part[k + 2] = code[2];
+    part[k + 3] = code[3];
 }
 
 // The number that wrapping n bytes of data to a place of a buffer of some size answers.
@@ -238,9 +240,6 @@ pub fn wrap(key: &[u8], header: &[u8], tag: u8, data: &[u8], buffer: &mut [u8], 
     }
     write_tag(&mut buffer[place..], tag, n);
     write_data(&mut buffer[place..], data);
-    let k = place_of(n) + n + 2;
-    let end = place + k;
-    let code = code_for(key, header, &buffer[place..end]);
-    write_code(&mut buffer[place..], k, code);
+    write_code(&mut buffer[place..], key, header, n);
     0
 }

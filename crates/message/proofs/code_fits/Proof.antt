@@ -1,86 +1,51 @@
+use Rattle.message.proofs.AnswerLaws.{told-body}
+use mathlib.Core.Path.{sym, _∙_}
+use native.Mathlib.Omega.{arith}
+use borrow.Author.Tests.{not-false}
+use lib.Seq.{length-take-le}
+use lib.ListN.{take}
+use Prim.Native.Nat.{_+_}
+use Rattle.message.proofs.AnswerLaws.{told-data, told-refused, fits-given, fits-shape, fits-code}
 use borrow.Author.Needs.{needs}
 use Rattle.message.proofs.code_fits.Statement.{statement}
 use Rattle.message.proofs.code_fits.Tie as tie
-use Rattle.message.proofs.code_fits.Reads as reads
-use Rattle.message.proofs.code_fits.Lts as lts
-use Rattle.message.proofs.code_for.Reads as code-for-reads
-use Rattle.message.proofs.given.Reads as given-reads
-use Rattle.message.proofs.shape.Reads as shape-reads
-use Rattle.octets.proofs.same.Reads as same-reads
 
--- src/lib.rt:145:9
-given-requires : tie.Need-given-requires
-given-requires c κs = search needs
-
--- src/lib.rt:146:9
 returns : tie.Need-returns
-returns c = ?
+returns c = fits-given _ _ _ _ (c .before .given .ensures) (c .if1 .taken)
 
--- src/lib.rt:148:50
-shape-requires : tie.Need-shape-requires
-shape-requires c κs = search needs
-
--- src/lib.rt:148:32
-enum-known-place : tie.Need-enum-known-place
-enum-known-place c = search needs
-
--- src/lib.rt:149:9
-enum-told : tie.Need-enum-told
-enum-told c = search needs
-
--- src/lib.rt:149:9
 returns-2 : tie.Need-returns-2
-returns-2 c = ?
+returns-2 c = fits-shape _ _ _ _ (c .before .before .before .before .given .ensures) (c .before .before .before .if1 .left) (told-refused _ _ _ (c .before .before .shape .ensures) (c .enum-told .given .1))
 
--- src/lib.rt:151:13
 add-k : tie.Need-add-k
-add-k c = ?
+add-k c = let w = told-data _ _ _ _ _ (c .before .before .before .shape .ensures) (c .before .place .given .1) in record { fits = omega arith }
 
--- src/lib.rt:151:13
 add-k-2 : tie.Need-add-k-2
-add-k-2 c = ?
+add-k-2 c = let w = told-data _ _ _ _ _ (c .before .before .before .shape .ensures) (c .before .place .given .1) in record { fits = omega arith }
 
--- src/lib.rt:152:38
 slice-aggregate-code-for : tie.Need-slice-aggregate-code-for
-slice-aggregate-code-for c = ?
+slice-aggregate-code-for c = let w = told-data _ _ _ _ _ (c .before .before .before .before .shape .ensures) (c .before .before .place .given .1) in sym (length-take-le _ (c .before .before .before .before .before .before .before .before .before .before .args .message .now) (omega arith))
 
--- src/lib.rt:152:16
 code-for-requires : tie.Need-code-for-requires
-code-for-requires c κs = ?
+code-for-requires c κs = (sym (c .before .before .before .before .before .before .given .ensures) ∙ not-false _ (c .before .before .before .before .before .if1 .left), told-body _ _ _ _ (told-data _ _ _ _ _ (c .before .before .before .before .shape .ensures) (c .before .before .place .given .1)))
 
--- src/lib.rt:153:18
 sub-same : tie.Need-sub-same
-sub-same c = ?
+sub-same c = let w = told-data _ _ _ _ _ (c .before .before .before .before .before .shape .ensures) (c .before .before .before .place .given .1) in omega arith
 
--- src/lib.rt:153:18
 part-same-start : tie.Need-part-same-start
-part-same-start c = ?
+part-same-start c = let w = told-data _ _ _ _ _ (c .before .before .before .before .before .shape .ensures) (c .before .before .before .place .given .1) in search needs
 
--- src/lib.rt:153:18
-part-same-end : tie.Need-part-same-end
-part-same-end c = search needs
-
--- src/lib.rt:153:33
-slice-aggregate-same : tie.Need-slice-aggregate-same
-slice-aggregate-same c = search needs
-
--- src/lib.rt:153:5
-same-requires : tie.Need-same-requires
-same-requires c κs = search needs
-
--- src/lib.rt:142:1
 returns-3 : tie.Need-returns-3
-returns-3 c = ?
+returns-3 c = fits-code _ _ _ _ (c .before .before .before .before .before .before .before .before .before .before .given .ensures) (c .before .before .before .before .before .before .before .before .before .if1 .left) _ _ _ (told-data _ _ _ _ _ (c .before .before .before .before .before .before .before .before .shape .ensures) (c .before .before .before .before .before .before .place .given .1)) _ (c .before .before .before .code-for .ensures) _ (c .same .ensures)
 
 pub code-fits-spec : {M : Type 1} → statement M
 code-fits-spec =
     tie.close
     (tie.spec
-    given-requires
+    (λ c κs. search needs)
     returns
-    shape-requires
-    enum-known-place
-    enum-told
+    (λ c κs. search needs)
+    (λ c. search needs)
+    (λ c. search needs)
     returns-2
     add-k
     add-k-2
@@ -88,7 +53,7 @@ code-fits-spec =
     code-for-requires
     sub-same
     part-same-start
-    part-same-end
-    slice-aggregate-same
-    same-requires
+    (λ c. search needs)
+    (λ c. search needs)
+    (λ c κs. search needs)
     returns-3)

@@ -1,26 +1,13 @@
+use Rattle.message.proofs.CodeLaws.{given-lengths, code-made}
 use borrow.Author.Needs.{needs}
 use Rattle.message.proofs.code_for.Statement.{statement}
 use Rattle.message.proofs.code_for.Tie as tie
-use Rattle.message.proofs.code_for.Reads as reads
-use Rattle.message.proofs.code_for.Lts as lts
-use Rattle.cipher.proofs.code.Reads as code-reads
-use Rattle.message.proofs.string.Reads as string-reads
 
--- src/lib.rt:136:13
 string-requires : tie.Need-string-requires
-string-requires c κs = ?
+string-requires c κs = (given-lengths _ _ (c .before .before .before .pre .0) .of-header, c .before .before .before .pre .1)
 
--- src/lib.rt:137:36
-slice-aggregate-code : tie.Need-slice-aggregate-code
-slice-aggregate-code c = search needs
-
--- src/lib.rt:137:9
-code-requires : tie.Need-code-requires
-code-requires c κs = search needs
-
--- src/lib.rt:132:1
 returns : tie.Need-returns
-returns c = ?
+returns c = code-made _ _ _ _ _ (c .before .before .before .before .before .before .before .pre .0) (c .before .before .before .before .before .before .before .pre .1) (c .before .before .before .string .ensures) (c .before .code .ensures)
 
 pub code-for-spec : {M : Type 1} → statement M
-code-for-spec = tie.close (tie.spec string-requires slice-aggregate-code code-requires returns)
+code-for-spec = tie.close (tie.spec string-requires (λ c. search needs) (λ c κs. search needs) returns)

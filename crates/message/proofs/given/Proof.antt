@@ -3,15 +3,11 @@ use Rattle.cipher.specs.Answers.{keyFits}
 use Rattle.message.specs.Code.{given}
 use Rattle.message.proofs.given.Statement.{statement}
 use Rattle.message.proofs.given.Tie as tie
-use Rattle.message.proofs.given.Reads as reads
-use Rattle.message.proofs.given.Lts as lts
 
--- src/lib.rt:96:9
 returns : tie.Need-returns
 unfolding given keyFits
 returns c = simp (ne-eqb _ _ (c .if1 .taken))
 
--- src/lib.rt:92:1
 returns-2 : tie.Need-returns-2
 unfolding given keyFits
 returns-2 c = simp (eq-eqb _ _ (c .if1 .left))

@@ -5,15 +5,11 @@ use Rattle.octets.specs.Same.{same}
 use Rattle.message.specs.Shape.{codeHead}
 use Rattle.message.proofs.is_code_head.Statement.{statement}
 use Rattle.message.proofs.is_code_head.Tie as tie
-use Rattle.message.proofs.is_code_head.Reads as reads
-use Rattle.message.proofs.is_code_head.Lts as lts
 
--- src/lib.rt:63:9
 returns : tie.Need-returns
 unfolding same codeHead
 returns c = simp (ne-eqb _ _ (c .if1 .taken))
 
--- src/lib.rt:59:1
 returns-2 : tie.Need-returns-2
 unfolding same codeHead
 returns-2 c = simp (eq-eqb _ _ (c .if1 .left), and-true)

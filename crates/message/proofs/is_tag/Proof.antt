@@ -2,15 +2,11 @@ use borrow.Author.Tests.{eq-eqb, ne-eqb}
 use Rattle.message.specs.Shape.{tagFits}
 use Rattle.message.proofs.is_tag.Statement.{statement}
 use Rattle.message.proofs.is_tag.Tie as tie
-use Rattle.message.proofs.is_tag.Reads as reads
-use Rattle.message.proofs.is_tag.Lts as lts
 
--- src/lib.rt:53:9
 returns : tie.Need-returns
 unfolding tagFits
 returns c = simp (eq-eqb _ _ (c .if1 .taken))
 
--- src/lib.rt:49:1
 returns-2 : tie.Need-returns-2
 unfolding tagFits
 returns-2 c = simp (ne-eqb _ _ (c .if1 .left))

@@ -1,58 +1,30 @@
+use Rattle.message.proofs.AnswerLaws.{told-data, told-refused, open-given, open-shape, open-code, open-data}
 use borrow.Author.Needs.{needs}
 use Rattle.message.proofs.open_message.Statement.{statement}
 use Rattle.message.proofs.open_message.Tie as tie
-use Rattle.message.proofs.open_message.Reads as reads
-use Rattle.message.proofs.open_message.Lts as lts
-use Rattle.message.proofs.code_fits.Reads as code-fits-reads
-use Rattle.message.proofs.given.Reads as given-reads
-use Rattle.message.proofs.shape.Reads as shape-reads
 
--- src/lib.rt:160:9
-given-requires : tie.Need-given-requires
-given-requires c κs = search needs
-
--- src/lib.rt:161:9
 returns : tie.Need-returns
-returns c = ?
+returns c = open-given _ _ _ _ (c .before .given .ensures) (c .if1 .taken)
 
--- src/lib.rt:163:47
-shape-requires : tie.Need-shape-requires
-shape-requires c κs = search needs
-
--- src/lib.rt:163:24
-enum-known-tag : tie.Need-enum-known-tag
-enum-known-tag c = search needs
-
--- src/lib.rt:164:9
-enum-told : tie.Need-enum-told
-enum-told c = search needs
-
--- src/lib.rt:164:9
 returns-2 : tie.Need-returns-2
-returns-2 c = ?
+returns-2 c = open-shape _ _ _ _ (c .before .before .before .before .given .ensures) (c .before .before .before .if1 .left) (told-refused _ _ _ (c .before .before .shape .ensures) (c .enum-told .given .1))
 
--- src/lib.rt:166:9
-code-fits-requires : tie.Need-code-fits-requires
-code-fits-requires c κs = search needs
-
--- src/lib.rt:167:9
 returns-3 : tie.Need-returns-3
-returns-3 c = ?
+returns-3 c = open-code _ _ _ _ (c .before .before .before .before .before .before .before .given .ensures) (c .before .before .before .before .before .before .if1 .left) _ _ _ (told-data _ _ _ _ _ (c .before .before .before .before .before .shape .ensures) (c .before .before .before .tag .given .1)) _ (c .before .code-fits .ensures) (c .if2 .taken)
 
--- src/lib.rt:157:1
 returns-4 : tie.Need-returns-4
-returns-4 c = ?
+returns-4 c = open-data _ _ _ _ (c .before .before .before .before .before .before .before .given .ensures) (c .before .before .before .before .before .before .if1 .left) _ _ _ (told-data _ _ _ _ _ (c .before .before .before .before .before .shape .ensures) (c .before .before .before .tag .given .1)) _ (c .before .code-fits .ensures) (c .if2 .left)
 
 pub open-message-spec : {M : Type 1} → statement M
 open-message-spec =
     tie.close
     (tie.spec
-    given-requires
+    (λ c κs. search needs)
     returns
-    shape-requires
-    enum-known-tag
-    enum-told
+    (λ c κs. search needs)
+    (λ c. search needs)
+    (λ c. search needs)
     returns-2
-    code-fits-requires
+    (λ c κs. search needs)
     returns-3
     returns-4)

@@ -11,9 +11,6 @@ use Rattle.message.specs.Code.{X}
 use Rattle.message.proofs.CodeLaws.{length-room, string-made}
 use Rattle.message.proofs.string.Statement.{statement}
 use Rattle.message.proofs.string.Tie as tie
-use Rattle.message.proofs.string.Reads as reads
-use Rattle.message.proofs.string.Lts as lts
-use Rattle.message.proofs.first_block.Reads as first-block-reads
 
 abbrev Inv-loop : tie.InvT-loop
 Inv-loop header body s₀ n i₀ s i = (i ≤ length body) × (s ≡ paste (X header ++ zeros 264) 8 body i)
@@ -21,35 +18,12 @@ Inv-loop header body s₀ n i₀ s i = (i ≤ length body) × (s ≡ paste (X he
 abbrev μ-loop : tie.MeasureT-loop
 μ-loop header body s₀ n i₀ s i = length body - i
 
--- src/lib.rt:120:17
 first-block-requires : tie.Need-first-block-requires Inv-loop μ-loop
 first-block-requires c κs = c .before .before .pre .0
 
--- src/lib.rt:123:5
 loop-holds : tie.Need-loop-holds Inv-loop μ-loop
 loop-holds c = (omega arith, c .first-block .ensures ∙ paste-zero _ 8 (c .before .before .before .args .body .now))
 
--- src/lib.rt:124:20
-shared-slice-read-s : tie.Need-shared-slice-read-s Inv-loop μ-loop
-shared-slice-read-s c = omega arith
-
--- src/lib.rt:124:11
-add-s : tie.Need-add-s Inv-loop μ-loop
-add-s c = search needs
-
--- src/lib.rt:124:9
-array-write-s : tie.Need-array-write-s Inv-loop μ-loop
-array-write-s c = search needs
-
--- src/lib.rt:125:9
-add-i : tie.Need-add-i Inv-loop μ-loop
-add-i c = search needs
-
--- src/lib.rt:123:5
-loop-less : tie.Need-loop-less Inv-loop μ-loop
-loop-less c = omega arith
-
--- src/lib.rt:123:5
 loop-again : tie.Need-loop-again Inv-loop μ-loop
 loop-again c = 
     let l = c .before .before .loop in
@@ -62,15 +36,6 @@ loop-again c =
       ap (λ (t : List ℕ). set t (8 + l .i) (getD b (l .i) 0)) (l .inv .1) ∙ paste-suc d 8 b (l .i) 0 (omega arith) (omega arith) ∙ ap (paste d 8 b) (sym (add-one (l .i))),
     )
 
--- src/lib.rt:127:7
-add-s-2 : tie.Need-add-s-2 Inv-loop μ-loop
-add-s-2 c = search needs
-
--- src/lib.rt:127:5
-array-write-s-2 : tie.Need-array-write-s-2 Inv-loop μ-loop
-array-write-s-2 c = search needs
-
--- src/lib.rt:116:1
 returns : tie.Need-returns Inv-loop μ-loop
 returns c = 
     let l = c .before .loop in
@@ -88,12 +53,12 @@ string-spec =
     μ-loop
     first-block-requires
     loop-holds
-    shared-slice-read-s
-    add-s
-    array-write-s
-    add-i
-    loop-less
+    (λ c. omega arith)
+    (λ c. search needs)
+    (λ c. search needs)
+    (λ c. search needs)
+    (λ c. omega arith)
     loop-again
-    add-s-2
-    array-write-s-2
+    (λ c. search needs)
+    (λ c. search needs)
     returns)

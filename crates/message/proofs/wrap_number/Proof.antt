@@ -1,67 +1,50 @@
+use native.Mathlib.Omega.{arith}
+use Rattle.message.specs.Length.{largest}
+use Rattle.message.proofs.LengthLaws.{place-small}
+use Rattle.message.proofs.WrapLaws.{wrap-given, wrap-tag, wrap-most, wrap-place, wrap-room, wrap-fits}
 use borrow.Author.Needs.{needs}
 use Rattle.message.proofs.wrap_number.Statement.{statement}
 use Rattle.message.proofs.wrap_number.Tie as tie
-use Rattle.message.proofs.wrap_number.Reads as reads
-use Rattle.message.proofs.wrap_number.Lts as lts
-use Rattle.message.proofs.given.Reads as given-reads
-use Rattle.message.proofs.is_tag.Reads as is-tag-reads
-use Rattle.message.proofs.place_of.Reads as place-of-reads
 
--- src/lib.rt:212:9
-given-requires : tie.Need-given-requires
-given-requires c κs = search needs
-
--- src/lib.rt:213:9
 returns : tie.Need-returns
-returns c = ?
+returns c = wrap-given _ _ _ _ _ _ _ (c .before .given .ensures) (c .if1 .taken)
 
--- src/lib.rt:215:9
-is-tag-requires : tie.Need-is-tag-requires
-is-tag-requires c κs = search needs
-
--- src/lib.rt:216:9
 returns-2 : tie.Need-returns-2
-returns-2 c = ?
+returns-2 c = wrap-tag _ _ _ _ _ _ _ (c .before .is-tag .ensures) (c .if2 .taken)
 
--- src/lib.rt:219:9
 returns-3 : tie.Need-returns-3
-returns-3 c = ?
+unfolding largest
+returns-3 c = wrap-most _ _ _ _ _ _ (c .if3 .taken)
 
--- src/lib.rt:222:9
 returns-4 : tie.Need-returns-4
-returns-4 c = ?
+unfolding largest
+returns-4 c = wrap-place _ _ _ _ _ _ _ (c .before .before .before .before .before .given .ensures) (c .before .before .before .before .if1 .left) _ (c .before .before .before .is-tag .ensures) (c .before .before .if2 .left) (c .before .if3 .left) (c .if4 .taken)
 
--- src/lib.rt:224:23
-place-of-requires : tie.Need-place-of-requires
-place-of-requires c κs = search needs
-
--- src/lib.rt:224:23
 add-if5 : tie.Need-add-if5
-add-if5 c = ?
+add-if5 c = record { fits = omega (arith, place-small (c .before .before .before .before .before .before .before .before .before .args .n)) }
 
--- src/lib.rt:224:23
 add-if5-2 : tie.Need-add-if5-2
-add-if5-2 c = ?
+add-if5-2 c = record { fits = omega (arith, place-small (c .before .before .before .before .before .before .before .before .before .args .n)) }
 
--- src/lib.rt:225:9
 returns-5 : tie.Need-returns-5
-returns-5 c = ?
+unfolding largest
+returns-5 c = wrap-room _ _ _ _ _ _ _ (c .before .before .before .before .before .before .before .given .ensures) (c .before .before .before .before .before .before .if1 .left) _ (c .before .before .before .before .before .is-tag .ensures) (c .before .before .before .before .if2 .left) (c .before .before .before .if3 .left) (c .before .before .if4 .left) _ (c .before .place-of .ensures) (c .if5 .taken)
 
--- src/lib.rt:209:1
 returns-6 : tie.Need-returns-6
-returns-6 c = ?
+unfolding largest
+returns-6 c = wrap-fits _ _ _ _ _ _ _ (c .before .before .before .before .before .before .before .given .ensures) (c .before .before .before .before .before .before .if1 .left) _ (c .before .before .before .before .before .is-tag .ensures) (c .before .before .before .before .if2 .left) (c .before .before .before .if3 .left) (c .before .before .if4 .left) _ (c .before .place-of .ensures) (c .if5 .left)
 
 pub wrap-number-spec : {M : Type 1} → statement M
 wrap-number-spec =
     tie.close
     (tie.spec
-    given-requires
+    (λ c κs. search needs)
     returns
-    is-tag-requires
+    (λ c κs. search needs)
     returns-2
     returns-3
     returns-4
-    place-of-requires
+    (λ c κs. search needs)
     add-if5
     add-if5-2
     returns-5

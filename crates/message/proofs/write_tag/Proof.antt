@@ -1,29 +1,29 @@
+use native.Mathlib.Omega.{arith}
+use lib.ListN.{length-set}
+use lib.Seq.{sets-eq}
+use mathlib.Core.List.{[], _∷_}
+use Rattle.message.specs.Length.{largest, lengthField, placeOf}
+use Rattle.message.specs.Answers.{laid}
 use borrow.Author.Needs.{needs}
 use Rattle.message.proofs.write_tag.Statement.{statement}
 use Rattle.message.proofs.write_tag.Tie as tie
-use Rattle.message.proofs.write_tag.Reads as reads
-use Rattle.message.proofs.write_tag.Lts as lts
 
--- src/lib.rt:177:5
 slice-write-part : tie.Need-slice-write-part
-slice-write-part c = ?
+unfolding placeOf lengthField
+slice-write-part c = omega arith
 
--- src/lib.rt:178:15
 cast-part : tie.Need-cast-part
-cast-part c = ?
+unfolding largest
+cast-part c = record { fits = omega arith }
 
--- src/lib.rt:178:5
 slice-write-part-2 : tie.Need-slice-write-part-2
-slice-write-part-2 c = ?
+unfolding placeOf lengthField
+slice-write-part-2 c = simp length-set (omega arith)
 
--- src/lib.rt:173:1
-same-length : tie.Need-same-length
-same-length c = search needs
-
--- src/lib.rt:173:1
 returns : tie.Need-returns
-returns c = ?
+unfolding laid placeOf lengthField
+returns c = sets-eq (c .args .tag ∷ c .args .n ∷ []) (c .args .part .now) 0 (c .pre .1)
 
 pub write-tag-spec : {M : Type 1} → statement M
 write-tag-spec =
-    tie.close (tie.spec slice-write-part cast-part slice-write-part-2 same-length returns)
+    tie.close (tie.spec slice-write-part cast-part slice-write-part-2 (λ c. search needs) returns)

@@ -52,3 +52,8 @@ laid-lent b a x p s h e =
     ∙ sym (append-assoc (take a b) (take p q ++ s) (drop (p + length s) q))
     ∙ ap₂ (λ (y r : List ℕ). y ++ r) (sym (append-assoc (take a b) (take p q) s) ∙ ap (λ (y : List ℕ). y ++ s) (sym (take-add a p b)))
       (drop-drop (p + length s) a b ∙ ap (λ (k : ℕ). drop k b) n)
+
+-- laid over the whole
+pub laid-whole : (b s : List ℕ) → length b ≡ length s → laid b 0 s ≡ s
+unfolding laid
+laid-whole b s e = ap (λ (r : List ℕ). s ++ r) (drop-of-length-le b {i = 0 + length s} (omega arith)) ∙ append-nil s

@@ -1,3 +1,5 @@
+pub mod Return
+pub mod Examples
 pub mod LengthLaws
 pub mod ShapeLaws
 pub mod LaidLaws

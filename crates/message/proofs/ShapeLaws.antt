@@ -101,6 +101,7 @@ pub record Parts (m : List ℕ) : Type 0 where
   pub tagged : tagFits (tagOf m) ≡ true
   pub most : lengthOf m ≤ largest
   pub whole : m ≡ body (tagOf m) (dataOf m) ++ codeIn m
+  pub its-body : bodyOf m ≡ body (tagOf m) (dataOf m)
   pub sized : length (dataOf m) ≡ lengthOf m
   pub four : length (codeIn m) ≡ 4
 
@@ -127,6 +128,7 @@ shape-parts m e =
       tagged = q .0;
       most = q .1;
       whole = w;
+      its-body = q .2;
       sized = sym (ap lengthOf w ∙ length-read (tagOf m) (dataOf m) (drop k m) (omega (arith, q .1)));
       four = q .3
     }

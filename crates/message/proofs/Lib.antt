@@ -1,0 +1,9 @@
+pub mod Return
+pub mod Examples
+pub mod LengthLaws
+pub mod ShapeLaws
+pub mod LaidLaws
+pub mod WrapLaws
+pub mod CommandLaws
+pub mod CodeLaws
+pub mod AnswerLaws

@@ -1,0 +1,35 @@
+-- The code of a script message (002, clauses 4.1.1 and 4.1.2). Assumes nothing.
+use Prim.Native.Nat.{ℕ, _+_, _-_}
+use mathlib.Core.Bool.{Bool, _&&_}
+use mathlib.Core.List.{List, [], _∷_, _++_}
+use lib.Dec.{eqb}
+use lib.ListN.{length, replicate}
+use Rattle.octets.specs.Same.{same}
+use Rattle.cipher.specs.Gost.{subkeys}
+use Rattle.cipher.specs.Code.{codeOf}
+use Rattle.cipher.specs.Answers.{keyFits}
+use Rattle.message.specs.Shape.{body, bodyOf, codeIn, shape}
+
+-- 4.1.1: X is CLA, INS, P1, P2, 80 00 00 00: 8 bytes
+unfoldable pub X : List ℕ → List ℕ
+X header = header ++ 0x80 ∷ 0x00 ∷ 0x00 ∷ 0x00 ∷ []
+
+-- Y is MSG, 80, 00 .. 00: 264 bytes
+unfoldable pub Y : List ℕ → List ℕ
+Y msg = msg ++ 0x80 ∷ replicate (264 - (length msg + 1)) 0x00
+
+-- IM, under the SMI session key
+unfoldable pub codeFor : List ℕ → List ℕ → List ℕ → List ℕ
+codeFor key header msg = codeOf (subkeys 8 key) (X header ++ Y msg)
+
+-- MSG, IM: "the final form of the message"
+unfoldable pub message : List ℕ → List ℕ → ℕ → List ℕ → List ℕ
+message key header tag d = body tag d ++ codeFor key header (body tag d)
+
+-- 01: a key is 32 bytes, a header 4
+unfoldable pub given : List ℕ → List ℕ → Bool
+given key header = keyFits key && eqb (length header) 4
+
+-- 4.1.2: the code is computed anew and compared
+unfoldable pub codeFits : List ℕ → List ℕ → List ℕ → Bool
+codeFits key header m = given key header && (shape m && same (codeIn m) (codeFor key header (bodyOf m)))

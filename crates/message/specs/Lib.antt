@@ -1,0 +1,5 @@
+pub mod Length
+pub mod Shape
+pub mod Code
+pub mod Answers
+pub mod Command

@@ -22,6 +22,11 @@ module _ (n c : ℕ) (x o : List ℕ) where
   unfolding numberOf bytesAfter
   given-yes h z a e = record { number = sym z ∙ sym (simp (eq-eqb _ _ h)); slice = e ∙ sym (simp (eq-eqb _ _ h, eq-eqb _ _ z)) }
 
+-- a refusal gives no bytes, whatever stands for them
+pub given-any : (n c : ℕ) (x y o : List ℕ) (r : ℕ) (z : List ℕ) → (c ≡ 0 → ⊥) → Given n c x o r z → Given n c y o r z
+unfolding bytesAfter
+given-any n c x y o r z h g = record { number = g .number; slice = g .slice ∙ simp (ne-eqb _ _ h, and-false) }
+
 -- an answer that is 1 and leaves the slice, whatever its length
 pub given-one : (n : ℕ) (x o : List ℕ) → Given n 1 x o 1 o
 given-one n x o = by (eqb (length o) n) refl

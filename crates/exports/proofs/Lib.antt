@@ -1,1 +1,2 @@
 pub mod GiveLaws
+pub mod OpenLaws

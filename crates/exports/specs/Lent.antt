@@ -15,6 +15,8 @@ use Rattle.cryptogram.specs.declared.Answer.{Answer}
 use Rattle.cryptogram.specs.declared.KindRead.{KindRead}
 use Rattle.cryptogram.specs.declared.KindRead.the-variants.{Known, Unknown}
 use Rattle.cryptogram.specs.Answers.{cryptogramAnswer, no}
+use Rattle.message.specs.declared.Opened.{Opened}
+use Rattle.message.specs.Answers.{number, values}
 
 -- the number returned: 1 for a lent slice that is not n bytes long, else the answer's own
 unfoldable pub numberOf : ℕ → ℕ → List ℕ → ℕ
@@ -57,3 +59,7 @@ GivenAnswer a lent r after = Given 8 (a .code) (a .bytes) lent r after
 unfoldable pub byNumber : List ℕ → KindRead → ℕ → List ℕ → Answer
 byNumber key (Known kind) atc d = cryptogramAnswer key kind atc d
 byNumber key Unknown atc d = no
+
+-- a message opened: its tag, and the place and length of its data
+abbrev pub GivenOpened : Opened → List ℕ → ℕ → List ℕ → Type 0
+GivenOpened o lent r after = Given 3 (number o) (values o) lent r after

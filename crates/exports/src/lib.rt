@@ -6,8 +6,10 @@ ghost use Rattle.derive.specs.Answers.{derivation};
 ghost use Rattle.keys.specs.Answers.{cardKey, cardKeyPacked, sessionKey, scriptKey, counterKey, idnAnswer};
 ghost use Rattle.pin.specs.Answers.{writePin, readPin};
 ghost use Rattle.cryptogram.specs.Answers.{kindOf, arpcAnswer};
-ghost use Rattle.exports.specs.Lent.{Given, GivenKey, GivenBlock, GivenCode, GivenIdn, GivenPin, GivenRead, GivenAnswer, byNumber};
+ghost use Rattle.exports.specs.Lent.{Given, GivenKey, GivenBlock, GivenCode, GivenIdn, GivenPin, GivenRead, GivenAnswer, GivenOpened, byNumber};
+ghost use Rattle.message.specs.Answers.{opened, wrapped, Wrote};
 use cryptogram::KindRead;
+use message::Opened;
 
 // An answer's bytes to the slice lent for them.
 fn give(code: u8, bytes: &[u8], out: &mut [u8]) -> u8
@@ -188,4 +190,35 @@ pub extern "C" fn box_arpc(key: &[u8], cryptogram: &[u8], csu: &[u8], out: &mut 
     let r = cryptogram::arpc(key, cryptogram, csu);
     let bytes = r.bytes;
     give(r.code, &bytes, out)
+}
+
+// A script message written into the buffer from a place on. 1: a length or the tag; 3: it does not fit there.
+#[no_mangle]
+pub extern "C" fn box_wrap(
+    key: &[u8],
+    header: &[u8],
+    tag: u8,
+    d: &[u8],
+    buffer: &mut [u8],
+    place: usize,
+) -> u8
+    ensures { λ r. ⌜ Wrote (wrapped (now (key .entry)) (now (header .entry)) tag (now (d .entry)) (now (buffer .entry)) place) r (now (buffer .exit)) ⌝ }
+{
+    message::wrap(key, header, tag, d, buffer, place)
+}
+
+// A script message opened: its tag, and the place and length of its data. 1: a length; 4: the shape; 8: the code.
+#[no_mangle]
+pub extern "C" fn box_open(key: &[u8], header: &[u8], message: &[u8], found: &mut [u8]) -> u8
+    ensures { λ r. ⌜ GivenOpened (opened (now (key .entry)) (now (header .entry)) (now (message .entry))) (now (found .entry)) r (now (found .exit)) ⌝ }
+{
+    let o = message::open_message(key, header, message);
+    match o {
+        Opened::Data { tag, place, length } => {
+            let at = (place % 256) as u8;
+            let n = (length % 256) as u8;
+            give(0, &[tag, at, n], found)
+        }
+        Opened::Refused(n) => give(n, &[0, 0, 0], found),
+    }
 }

@@ -59,12 +59,12 @@ module _ (m : List ℕ) where
       unfolding tagOf
       shape-yes a b t w h u v i =
           let g : Good m =
-              record {
-                most = omega arith;
-                long = b ∙ ap (λ (k : ℕ). k + 6) at-end;
-                tagged = sym w ∙ not-false t h;
-                headed = ap (λ (k : ℕ). same (getD m k 0 ∷ getD m (k + 1) 0 ∷ []) codeHead) (sym at-end) ∙ sym v ∙ not-false u i
-              }
+          record {
+            most = omega arith;
+            long = b ∙ ap (λ (k : ℕ). k + 6) at-end;
+            tagged = sym w ∙ not-false t h;
+            headed = ap (λ (k : ℕ). same (getD m k 0 ∷ getD m (k + 1) 0 ∷ []) codeHead) (sym at-end) ∙ sym v ∙ not-false u i;
+          }
           in
           ap₂ (λ (x y : ℕ). Data (getD m 0 0) x y) (f ∙ ap placeOf e) e ∙ shaped-good m (good-shape m g)
 
@@ -96,7 +96,7 @@ told-data m r t p n e f = go (shape m) refl
           the-length = k;
           the-size = o .long ∙ ap₂ (λ (x y : ℕ). x + y + 6) (sym q) (sym k);
           small-place = omega arith;
-          small-length = omega (arith, largest-small)
+          small-length = omega (arith, largest-small);
         }
     go false g =
         let w : Data t p n ≡ Refused 4 = sym f ∙ e ∙ sym (shaped-bad m g) in

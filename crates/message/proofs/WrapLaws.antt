@@ -94,7 +94,7 @@ accepted key header tag n size place e =
           most = m;
           room = omega arith;
           small-place = place-small n;
-          small-length = omega (arith, largest-small)
+          small-length = omega (arith, largest-small);
         }
     go true f false g h = absurd (omega arith)
     go false f b g h = absurd (omega arith)
@@ -211,5 +211,5 @@ module _ (key header : List ℕ) (tag : ℕ) (d b : List ℕ) (place : ℕ) wher
                   laid-lent (second x y) place w k (codeFor key header (take k s)) (omega arith) ew
                   ∙ ap₂ (λ (u c : List ℕ). laid u (place + k) (codeFor key header c)) data-laid body-there
                   ∙ laid-laid b place m (omega arith) (codeFor key header m) (place + k) (omega arith)
-                  ∙ ap (λ (r : Written). r .buffer) v
+                  ∙ ap (λ (r : Written). r .buffer) v;
             }

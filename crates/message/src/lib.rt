@@ -13,7 +13,8 @@ ghost use Rattle.message.specs.Answers.{shaped, opened, laid, wrapNumber
 
 mod command;
 
-pub use command::{Command, Listed};
+pub use command::Command;
+pub use command::Listed;
 
 // The tag, and the place and length of the data in the message; or a refusal's number.
 pub enum Opened {
@@ -145,7 +146,12 @@ pub fn code_fits(key: &[u8], header: &[u8], message: &[u8]) -> bool
     if !given(key, header) {
         return false;
     }
-    let Opened::Data { tag: _, place, length } = shape(message) else {
+    let Opened::Data {
+        tag: _,
+        place,
+        length,
+    } = shape(message)
+    else {
         return false;
     };
     let k = place + length + 2;

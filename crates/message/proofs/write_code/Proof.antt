@@ -31,7 +31,7 @@ slice-aggregate-code-for c = sym (length-take-le _ (c .before .before .before .b
 
 code-for-requires : tie.Need-code-for-requires
 unfolding bodySize
-code-for-requires c κs = 
+code-for-requires c κs =
     let s = c .before .before .before .before .before in
     let k = c .before .place-of .result + s .args .n + 2 in
     let l : length (take k (s .args .part .now)) ≡ k = length-take-le k (s .args .part .now) (omega arith) in
@@ -67,7 +67,7 @@ slice-write-part-4 c = simp length-set (omega arith)
 
 returns : tie.Need-returns
 unfolding bodySize
-returns c = 
+returns c =
     let s = c .before .before .before .before .before .before in
     let x = s .args in
     let b = now (x .part) in

@@ -33,7 +33,7 @@ slice-write-part c = omega arith
 
 loop-again : tie.Need-loop-again Inv-loop μ-loop
 unfolding bodySize
-loop-again c = 
+loop-again c =
     let l = c .before .before .loop in
     let p = c .before .before .before .place-of .result in
     let x = c .before .before .before .before .before .before .args in
@@ -69,7 +69,7 @@ same-length c = simp length-set (c .before .loop .inv .1)
 
 returns : tie.Need-returns Inv-loop μ-loop
 unfolding bodySize
-returns c = 
+returns c =
     let l = c .before .loop in
     let p = c .before .before .place-of .result in
     let x = c .before .before .before .before .before .args in

@@ -108,7 +108,7 @@ module _ (x : List ℕ) where
 
   pub length-sixteen : length (sixteen x) ≡ 16
   unfolding sixteen
-  length-sixteen = length-append (drop (length x - 16) x) (replicate (16 - length x) 0) ∙ ap₂ (λ (a b : ℕ). a + b) (length-drop (length x - 16) x) (length-replicate (16 - length x) 0) ∙ omega arith
+  length-sixteen = simp (length-append, length-drop, length-replicate) (omega arith)
 
   pub sixteen-at : (k : ℕ) → k < 16 → getD (sixteen x) k 0 ≡ getD x (length x - 16 + k) 0
   unfolding sixteen front

@@ -5,7 +5,7 @@ use Prim.Native.Nat.{ℕ}
 use native.Mathlib.Omega.{arith}
 use lib.ListN.{length, getD, set, replicate, List·getD-append, length-set}
 use lib.Seq.{set-append-left, getD-set-other}
-use Rattle.octets.specs.Numbers.{beOctets}
+use Rattle.octets.specs.Numbers.{beOctets, leOctets}
 use Rattle.octets.proofs.Parts.{elements-all}
 use Rattle.cryptogram.specs.declared.Kind.{Kind}
 use Rattle.cryptogram.specs.Data.{width, widths, beforeCounter, counterPlace, issuerPlace, dataLength, kindPlace, marked, cardData}
@@ -44,7 +44,7 @@ module _ (d p : List ℕ) (e : length d ≡ 65) (x y : ℕ) where
 pub string-made : (kind : Kind) (atc : ℕ) (d : List ℕ) → length d ≡ 65 → (c : List ℕ) → c ≡ beOctets 2 atc → (s : List ℕ) → s ≡ d ++ 0x80 ∷ replicate 6 0
     → (m : ℕ) → m ≡ marked kind (getD (set (set s 31 (getD c 0 0)) 32 (getD c 1 0)) 36 0)
     → set (set (set s 31 (getD c 0 0)) 32 (getD c 1 0)) 36 m ≡ string kind atc d
-unfolding string cardData kindPlace issuerPlace counterPlace widths width beforeCounter
+unfolding string cardData beOctets leOctets kindPlace issuerPlace counterPlace widths width beforeCounter
 string-made kind atc d e c ec s es m em =
     let p : List ℕ = 0x80 ∷ replicate 6 0 in
     let x = getD c 0 0 in

@@ -4,9 +4,9 @@ use mathlib.Core.List.{List, [], _∷_, _++_}
 use Prim.Native.Nat.{ℕ}
 use native.Mathlib.Omega.{arith}
 use lib.ListN.{length, getD, set, replicate, List·getD-append, length-set}
-use lib.Seq.{set-append-left, getD-set-other}
-use Rattle.octets.specs.Numbers.{beOctets}
-use Rattle.octets.proofs.Parts.{elements-all}
+use lib.Seq.{sets, set-append-left, getD-set-other}
+use Rattle.octets.specs.Numbers.{beOctets, leOctets}
+use Rattle.octets.proofs.Parts.{elements, elements-all}
 use Rattle.cryptogram.specs.declared.Kind.{Kind}
 use Rattle.cryptogram.specs.Data.{width, widths, beforeCounter, counterPlace, issuerPlace, dataLength, kindPlace, marked, cardData}
 use Rattle.cryptogram.specs.Cryptogram.{twice, string, arpcString}
@@ -44,7 +44,7 @@ module _ (d p : List ℕ) (e : length d ≡ 65) (x y : ℕ) where
 pub string-made : (kind : Kind) (atc : ℕ) (d : List ℕ) → length d ≡ 65 → (c : List ℕ) → c ≡ beOctets 2 atc → (s : List ℕ) → s ≡ d ++ 0x80 ∷ replicate 6 0
     → (m : ℕ) → m ≡ marked kind (getD (set (set s 31 (getD c 0 0)) 32 (getD c 1 0)) 36 0)
     → set (set (set s 31 (getD c 0 0)) 32 (getD c 1 0)) 36 m ≡ string kind atc d
-unfolding string cardData kindPlace issuerPlace counterPlace widths width beforeCounter
+unfolding string cardData beOctets leOctets kindPlace issuerPlace counterPlace widths width beforeCounter
 string-made kind atc d e c ec s es m em =
     let p : List ℕ = 0x80 ∷ replicate 6 0 in
     let x = getD c 0 0 in
@@ -65,3 +65,15 @@ pub twice-made : (c : List ℕ) → length c ≡ 4
     → getD c 0 0 ∷ getD c 1 0 ∷ getD c 2 0 ∷ getD c 3 0 ∷ getD c 0 0 ∷ getD c 1 0 ∷ getD c 2 0 ∷ getD c 3 0 ∷ [] ≡ twice c
 unfolding twice
 twice-made c e = sym (ap twice (elements-all c 4 e))
+
+-- what the data hold at 31, 32 and in the upper half of 36 does not matter
+marked-over : (kind kind′ : Kind) (b : ℕ) → marked kind (marked kind′ b) ≡ marked kind b
+unfolding marked
+marked-over kind kind′ b = omega arith
+
+pub overwritten : (kind kind′ : Kind) (atc atc′ : ℕ) (d : List ℕ) → length d ≡ 65 → cardData kind atc (cardData kind′ atc′ d) ≡ cardData kind atc d
+unfolding cardData beOctets leOctets kindPlace issuerPlace counterPlace widths width beforeCounter
+overwritten kind kind′ atc atc′ d e =
+    ap (λ (s : List ℕ). cardData kind atc (cardData kind′ atc′ s)) (elements-all d 65 e)
+    ∙ ap (λ (m : ℕ). set (sets (elements d 0 0 65) 31 (beOctets 2 atc)) 36 m) (marked-over kind kind′ (getD d 36 0))
+    ∙ sym (ap (cardData kind atc) (elements-all d 65 e))

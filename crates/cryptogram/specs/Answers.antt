@@ -27,7 +27,7 @@ unfoldable pub arpcAnswer : List ℕ → List ℕ → List ℕ → Answer
 arpcAnswer key cryptogram csu =
     cond (keyFits key && (eqb (length cryptogram) 8 && eqb (length csu) 4)) (yes (arpcOf (subkeys 8 key) cryptogram csu)) no
 
--- a kind's number, as a card tells it to a terminal: 80 ARQC, 40 TC, 00 AAC
+-- a kind's number, as the clerk's trace has it for ARQC and AAC, and a card tells it to a terminal
 unfoldable pub kindNumber : Kind → ℕ
 kindNumber Arqc = 0x80
 kindNumber Tc = 0x40

@@ -2,6 +2,7 @@
 use Prim.Native.Nat.{ℕ, _+_, _*_, _%_}
 use mathlib.Core.List.{List, [], _∷_}
 use lib.ListN.{getD, set}
+use lib.Seq.{sets}
 use Rattle.octets.specs.Numbers.{beOctets}
 use Rattle.cryptogram.specs.declared.Kind.{Kind}
 use Rattle.cryptogram.specs.declared.Kind.the-variants.{Arqc, Tc, Aac}
@@ -68,5 +69,4 @@ marked kind b = 16 * kindBits kind + b % 16
 
 -- the data with the card's own counter, high byte first, and the kind
 unfoldable pub cardData : Kind → ℕ → List ℕ → List ℕ
-cardData kind atc d =
-    set (set (set d counterPlace (getD (beOctets 2 atc) 0 0)) (counterPlace + 1) (getD (beOctets 2 atc) 1 0)) kindPlace (marked kind (getD d kindPlace 0))
+cardData kind atc d = set (sets d counterPlace (beOctets 2 atc)) kindPlace (marked kind (getD d kindPlace 0))

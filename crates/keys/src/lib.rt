@@ -4,7 +4,6 @@ ghost use mathlib.Core.Bool.{true};
 ghost use mathlib.Core.List.{_++_};
 ghost use Prim.Native.Nat.{_+_, _-_, _*_, _≤_};
 ghost use lib.ListN.{length, getD, take, replicate};
-ghost use Rattle.octets.specs.Numbers.{beOctets};
 ghost use Rattle.octets.specs.Digits.{digits};
 ghost use Rattle.keys.specs.CardNumber.{cardFits, X, sixteen as lastSixteen, pairs};
 ghost use Rattle.keys.specs.Answers.{cardAnswer, cardKey, cardKeyPacked, sessionKey, scriptKey, counterKey, idnAnswer};
@@ -121,18 +120,11 @@ pub fn card_key_packed(issuer: &[u8], pan: &[u8], sequence: u8) -> KeyAnswer
     card_key_by(16, issuer, pan, sequence)
 }
 
-// The two octets of a counter, high first.
-fn high_first(x: u16) -> [u8; 2]
-    ensures { λ r. ⌜ r ≡ beOctets 2 x ⌝ }
-{
-    [(x / 256 % 256) as u8, (x % 256) as u8]
-}
-
 // The session key for cryptograms, from the master key and the transaction counter.
 pub fn session_key(master: &[u8], counter: u16) -> KeyAnswer
     ensures { λ r. ⌜ r ≡ sessionKey (now (master .entry)) counter ⌝ }
 {
-    let c = high_first(counter);
+    let c = octets::high_first(counter);
     derive::derive(master, &[c[0], c[1], 0xf0, 0, 0, 0, 0, 0])
 }
 
@@ -194,7 +186,7 @@ pub fn idn(key: &[u8], counter: u16, n: u8) -> IdnAnswer
             bytes: [0; 8],
         };
     }
-    let c = high_first(counter);
+    let c = octets::high_first(counter);
     let r = cipher::encipher(key, &[c[0], c[1], 0, 0, 0, 0, 0, 0]);
     let b = r.bytes;
     let bytes = first(b, n);

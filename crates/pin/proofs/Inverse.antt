@@ -42,7 +42,7 @@ write-accepted : (pin : List ℕ) → writePin pin .code ≡ 0 → pinFits 0 (le
 unfolding writePin
 write-accepted pin h = accepted-block (pinFits 0 (length pin) pin) (written (pinBlock pin)) 11 h .0
 
-format-accepted : (b : List ℕ) → readBlock b .code ≡ 0 → wellFormed (halves b) ≡ true
+pub format-accepted : (b : List ℕ) → readBlock b .code ≡ 0 → wellFormed (halves b) ≡ true
 unfolding readBlock
 format-accepted b h = accepted-read (wellFormed (halves b)) (found (pinOf (halves b))) 8 h .0
 
@@ -67,7 +67,7 @@ module _ (pin : List ℕ) (f : Fits 0 (length pin) pin) where
   unfolding pinBlock
   octets-pinBlock = octets-joined (fields pin) (small-fields pin f)
 
-  block-read : readBlock (pinBlock pin) ≡ found pin
+  pub block-read : readBlock (pinBlock pin) ≡ found pin
   unfolding readBlock pinBlock
   block-read =
       ap (λ (h : List ℕ). cond (wellFormed h) (found (pinOf h)) (noPin 9)) (halves-joined (fields pin) 8 (length-fields pin (f .most)) (small-fields pin f))
@@ -84,7 +84,7 @@ unfolding halves
 length-halves b e = ap (λ (s : List ℕ). length (halves s)) (elements-all b 8 e)
 
 module _ (b : List ℕ) (e : length b ≡ 8) (g : wellFormed (halves b) ≡ true) where
-  found-block : readBlock b ≡ found (pinOf (halves b))
+  pub found-block : readBlock b ≡ found (pinOf (halves b))
   unfolding readBlock
   found-block = ap (λ (t : Bool). cond t (found (pinOf (halves b))) (noPin 9)) g
 
@@ -102,7 +102,7 @@ module _ (b : List ℕ) (e : length b ≡ 8) (g : wellFormed (halves b) ≡ true
         all = subst (λ (s : List ℕ). digits 0 n s ≡ true) (append-nil (take n (drop 2 h))) (digits-refilled 15 0 n 0 (drop 2 h) (f .pin .all));
       }))
 
-  block-written : pinBlock (pinOf (halves b)) ≡ b
+  pub block-written : pinBlock (pinOf (halves b)) ≡ b
   unfolding pinBlock fields pinOf
   block-written =
       let h = halves b in

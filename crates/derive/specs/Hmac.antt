@@ -6,7 +6,7 @@ use lib.Bits.{bitXor}
 use lib.ListN.{length, replicate}
 use Rattle.hash.specs.Hash.{hash256}
 
--- the key with zeros up to a block, each byte xored with p
+-- the key with zeros up to a block, each byte xored with p (for a key of at most a block; ours are 32 bytes)
 unfoldable pub padded : ℕ → List ℕ → List ℕ
 padded p key = map (λ b. bitXor b p) (key ++ replicate (64 - length key) 0)
 

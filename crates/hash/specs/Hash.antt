@@ -25,7 +25,7 @@ step c b = advanced c 512 (words b)
 unfoldable pub padded : List ℕ → List ℕ
 padded t = t ++ 1 ∷ replicate (63 - length t) 0
 
--- and then h = g_0(h, N), h = g_0(h, Sigma), and the 256 highest bits of h
+-- and then h = g_0(h, N), h = g_0(h, Sigma), and MSB_256, the 256 highest bits of h
 unfoldable pub closed : Core → List ℕ
 closed c = drop 32 (bytes (g (vec 0) (g (vec 0) (c .h) (c .n)) (c .sigma)))
 

@@ -13,7 +13,7 @@ use Rattle.keys.specs.declared.IdnAnswer.{IdnAnswer}
 use Rattle.keys.specs.CardNumber.{cardFits, Y, packedY}
 use Rattle.keys.specs.Seeds.{sessionSeed, idnBlock}
 
--- a card master key from the seed y: 1 for the issuer's key, then 2 for the card
+-- 003, 4.1: a card master key from the seed y; 1 for the issuer's key, then 2 for the card
 unfoldable pub cardAnswer : List ℕ → List ℕ → ℕ → List ℕ → KeyAnswer
 cardAnswer key pan sequence y =
     cond (keyFits key) (cond (cardFits pan sequence) (yes (derived key cardLabel y)) (noKey 2)) (noKey 1)

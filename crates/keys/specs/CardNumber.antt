@@ -10,7 +10,7 @@ use Rattle.octets.specs.Digits.{digits}
 unfoldable pub cardFits : List ℕ → ℕ → Bool
 cardFits pan sequence = leb 12 (length pan) && (leb (length pan) 19 && (digits 0 (length pan) pan && leb sequence 99))
 
--- "X is the card number's digits followed by two digits of sequence number"
+-- "X is the card number's digits followed by two digits of sequence number, 00 if it is absent" (absent is passed as 0)
 unfoldable pub X : List ℕ → ℕ → List ℕ
 X pan sequence = pan ++ sequence / 10 ∷ sequence % 10 ∷ []
 

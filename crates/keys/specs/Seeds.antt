@@ -4,7 +4,7 @@ use mathlib.Core.List.{List, _∷_, _++_}
 use lib.ListN.{replicate}
 use Rattle.octets.specs.Numbers.{beOctets}
 
--- 4.2.1: ATC, f0, five 00
+-- 003, 4.2.1: ATC, f0, five 00
 unfoldable pub sessionSeed : ℕ → List ℕ
 sessionSeed atc = beOctets 2 atc ++ 0xf0 ∷ replicate 5 0
 

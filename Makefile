@@ -1,5 +1,5 @@
-# make run: proves and builds the program and runs it on a sample.  make test: the whole gate.
-.PHONY: run test clean
+# make run: proves and builds the program and runs it on a sample.  make test: the whole gate.  make host: the desk's program in C.
+.PHONY: run test host clean
 
 run:
 	rt check vectors
@@ -7,6 +7,10 @@ run:
 
 test:
 	.ci/run
+
+host:
+	tools/build-host
+	@echo 'tools/run box --help'
 
 clean:
 	rm -rf target

@@ -1,0 +1,230 @@
+/* Feeds every exported function right and wrong lengths, null with length 0, places past the end and random bytes, and checks its number and every
+ * lent byte: each string lies between canaries, inputs are compared with a copy, and an output stays as it was on every refusal. */
+#include "box.h"
+
+#include <stdio.h>
+#include <stdlib.h>
+#include <string.h>
+
+enum { CANARY = 0xc5, MARGIN = 16, ROUNDS = 4000 };
+
+static unsigned long calls, accepted;
+static uint64_t seed = 20171219;
+
+static uint32_t any(void) {
+    seed = seed * 6364136223846793005u + 1442695040888963407u;
+    return (uint32_t)(seed >> 33);
+}
+
+static void fail(const char *what) {
+    printf("exports-test: FAILED: %s (call %lu)\n", what, calls);
+    exit(1);
+}
+
+/* A string between canaries, and a copy of it. */
+struct lent {
+    uint8_t *room, *at, *copy;
+    size_t length;
+};
+
+static struct lent lend(size_t length) {
+    struct lent s;
+    size_t i;
+    s.length = length;
+    s.room = malloc(length + 2 * MARGIN);
+    s.copy = malloc(length + 1);
+    if (s.room == NULL || s.copy == NULL) fail("no memory");
+    memset(s.room, CANARY, length + 2 * MARGIN);
+    for (i = 0; i < length; i++) s.room[MARGIN + i] = (uint8_t)any();
+    memcpy(s.copy, s.room + MARGIN, length);
+    s.at = length == 0 ? NULL : s.room + MARGIN;
+    return s;
+}
+
+static void keep(struct lent *s) { memcpy(s->copy, s->room + MARGIN, s->length); }
+
+/* The canaries stand, and outside of [from, to) the string is its copy. */
+static void back(struct lent s, size_t from, size_t to, const char *name) {
+    size_t i;
+    for (i = 0; i < MARGIN; i++)
+        if (s.room[i] != CANARY || s.room[MARGIN + s.length + i] != CANARY) fail(name);
+    for (i = 0; i < s.length; i++)
+        if ((i < from || i >= to) && s.room[MARGIN + i] != s.copy[i]) fail(name);
+    free(s.room);
+    free(s.copy);
+}
+
+/* Mostly the right length, else one near it or far off. */
+static size_t length_near(size_t right) {
+    switch (any() % 8) {
+    case 0: return 0;
+    case 1: return right + 1;
+    case 2: return right == 0 ? 1 : right - 1;
+    case 3: return any() % 300;
+    default: return right;
+    }
+}
+
+static void expect(uint8_t got, uint8_t wanted, const char *name) {
+    calls++;
+    if (got == 0) accepted++;
+    if (got != wanted) {
+        printf("exports-test: %s returned %u, not %u\n", name, got, wanted);
+        fail(name);
+    }
+}
+
+typedef uint8_t two(const uint8_t *, size_t, const uint8_t *, size_t, uint8_t *, size_t);
+
+/* A key of 32 and one string more; `whole`: any number of whole blocks but none. */
+static void of_two(two *f, size_t right, int whole, size_t out_right, const char *name) {
+    struct lent a = lend(length_near(32)), b = lend(whole ? (any() % 2 ? 8 * (any() % 40) : any() % 70) : length_near(right)), o = lend(length_near(out_right));
+    int ok = a.length == 32 && o.length == out_right && (whole ? b.length > 0 && b.length % 8 == 0 : b.length == right);
+    uint8_t r = f(a.at, a.length, b.at, b.length, o.at, o.length);
+    expect(r, ok ? 0 : 1, name);
+    back(a, 0, 0, name);
+    back(b, 0, 0, name);
+    back(o, 0, r == 0 ? o.length : 0, name);
+}
+
+typedef uint8_t card(const uint8_t *, size_t, const uint8_t *, size_t, uint8_t, uint8_t *, size_t);
+
+static void of_card(card *f, const char *name) {
+    struct lent a = lend(length_near(32)), b = lend(any() % 2 ? 12 + any() % 8 : any() % 24), o = lend(length_near(32));
+    uint8_t sequence = any() % 2 ? (uint8_t)(any() % 100) : (uint8_t)any(), r, wanted = 0;
+    size_t i;
+    for (i = 0; i < b.length; i++) b.room[MARGIN + i] %= any() % 40 == 0 ? 12 : 10;
+    keep(&b);
+    for (i = 0; i < b.length; i++)
+        if (b.copy[i] > 9) wanted = 2;
+    if (b.length < 12 || b.length > 19 || sequence > 99) wanted = 2;
+    if (a.length != 32 || o.length != 32) wanted = 1;
+    r = f(a.at, a.length, b.at, b.length, sequence, o.at, o.length);
+    expect(r, wanted, name);
+    back(a, 0, 0, name);
+    back(b, 0, 0, name);
+    back(o, 0, r == 0 ? o.length : 0, name);
+}
+
+static void of_keys(void) {
+    struct lent a = lend(length_near(32)), o = lend(length_near(32)), p = lend(length_near(4));
+    uint16_t counter = (uint16_t)any();
+    uint8_t r = box_session_key(a.at, a.length, counter, o.at, o.length);
+    expect(r, a.length == 32 && o.length == 32 ? 0 : 1, "box_session_key");
+    back(o, 0, r == 0 ? o.length : 0, "box_session_key");
+    o = lend(length_near(32));
+    r = box_counter_key(a.at, a.length, o.at, o.length);
+    expect(r, a.length == 32 && o.length == 32 ? 0 : 1, "box_counter_key");
+    back(o, 0, r == 0 ? o.length : 0, "box_counter_key");
+    r = box_idn(a.at, a.length, counter, p.at, p.length);
+    expect(r, a.length == 32 && p.length >= 2 && p.length <= 8 ? 0 : 1, "box_idn");
+    back(p, 0, r == 0 ? p.length : 0, "box_idn");
+    back(a, 0, 0, "box_idn");
+}
+
+static void of_pin(void) {
+    struct lent a = lend(any() % 2 ? 4 + any() % 9 : any() % 16), o = lend(length_near(8)), q = lend(length_near(13)), n = lend(length_near(8));
+    uint8_t r, s, wanted = 0;
+    size_t i;
+    for (i = 0; i < a.length; i++) a.room[MARGIN + i] %= any() % 30 == 0 ? 12 : 10;
+    keep(&a);
+    for (i = 0; i < a.length; i++)
+        if (a.copy[i] > 9) wanted = 12;
+    if (a.length < 4 || a.length > 12) wanted = 12;
+    if (o.length != 8) wanted = 1;
+    r = box_write_pin(a.at, a.length, o.at, o.length);
+    expect(r, wanted, "box_write_pin");
+    if (r == 0) {
+        s = box_read_pin(o.at, o.length, q.at, q.length);
+        expect(s, q.length == 13 ? 0 : 1, "box_read_pin");
+        if (s == 0) {
+            if (q.at[0] != a.length || memcmp(q.at + 1, a.at, a.length) != 0) fail("box_read_pin: digits");
+            for (i = 1 + a.length; i < 13; i++)
+                if (q.at[i] != 0) fail("box_read_pin: places");
+        }
+    } else {
+        s = 1;
+    }
+    back(q, 0, r == 0 && s == 0 ? q.length : 0, "box_read_pin");
+    back(a, 0, 0, "box_write_pin");
+    back(o, 0, r == 0 ? o.length : 0, "box_write_pin");
+    /* random bytes are hardly ever a PIN block: the first half-byte is made wrong */
+    q = lend(length_near(13));
+    if (n.length > 0) n.at[0] = (uint8_t)(n.at[0] % 16 + 16);
+    keep(&n);
+    r = box_read_pin(n.at, n.length, q.at, q.length);
+    expect(r, n.length == 8 && q.length == 13 ? 9 : 1, "box_read_pin");
+    back(q, 0, 0, "box_read_pin");
+    back(n, 0, 0, "box_read_pin");
+}
+
+static void of_cryptogram(void) {
+    static const uint8_t kinds[4] = {0x80, 0x40, 0x00, 0x01};
+    struct lent a = lend(length_near(32)), d = lend(length_near(65)), o = lend(length_near(8)), c = lend(length_near(8)), u = lend(length_near(4));
+    uint8_t kind = kinds[any() % 4], r = box_cryptogram(a.at, a.length, kind, (uint16_t)any(), d.at, d.length, o.at, o.length);
+    expect(r, a.length == 32 && d.length == 65 && o.length == 8 && kind != 1 ? 0 : 1, "box_cryptogram");
+    if (r == 0 && memcmp(o.at, o.at + 4, 4) != 0) fail("box_cryptogram: not written twice");
+    back(o, 0, r == 0 ? o.length : 0, "box_cryptogram");
+    back(d, 0, 0, "box_cryptogram");
+    o = lend(length_near(8));
+    r = box_arpc(a.at, a.length, c.at, c.length, u.at, u.length, o.at, o.length);
+    expect(r, a.length == 32 && c.length == 8 && u.length == 4 && o.length == 8 ? 0 : 1, "box_arpc");
+    back(o, 0, r == 0 ? o.length : 0, "box_arpc");
+    back(a, 0, 0, "box_arpc");
+    back(c, 0, 0, "box_arpc");
+    back(u, 0, 0, "box_arpc");
+}
+
+static void of_message(void) {
+    static const uint8_t tags[4] = {0x87, 0x81, 0x87, 0x82};
+    struct lent k = lend(length_near(32)), h = lend(length_near(4)), d = lend(any() % 3 ? any() % 128 : any() % 200), b = lend(any() % 400), f = lend(length_near(3));
+    uint8_t tag = tags[any() % 4], r, s = 1, wanted = 0;
+    size_t place = any() % 6 == 0 ? (size_t)0 - any() % 3 : any() % (b.length + 3), size = d.length + 8;
+    if (b.length < place || b.length - place < size) wanted = 3;
+    if (k.length != 32 || h.length != 4 || d.length > 127 || tag == 0x82) wanted = 1;
+    r = box_wrap(k.at, k.length, h.at, h.length, tag, d.at, d.length, b.at, b.length, place);
+    expect(r, wanted, "box_wrap");
+    if (r == 0) {
+        uint8_t *m = b.at + place;
+        s = box_open(k.at, k.length, h.at, h.length, m, size, f.at, f.length);
+        expect(s, f.length == 3 ? 0 : 1, "box_open");
+        if (s == 0 && (f.at[0] != tag || f.at[2] != d.length || (d.length > 0 && memcmp(m + f.at[1], d.at, d.length) != 0))) fail("box_open: found");
+        /* one bit changed: the code differs, or the shape is wrong */
+        if (f.length == 3) {
+            struct lent g = lend(3);
+            size_t at = any() % size;
+            m[at] ^= (uint8_t)(1u << any() % 8);
+            r = box_open(k.at, k.length, h.at, h.length, m, size, g.at, g.length);
+            expect(r, r == 4 ? 4 : 8, "box_open of a changed message");
+            back(g, 0, 0, "box_open");
+            r = 0;
+        }
+    } else {
+        uint8_t t = box_open(k.at, k.length, h.at, h.length, b.at, b.length < 3 ? b.length : 3, f.at, f.length);
+        expect(t, k.length == 32 && h.length == 4 && f.length == 3 ? 4 : 1, "box_open of a short message");
+    }
+    back(b, r == 0 ? place : 0, r == 0 ? place + size : 0, "box_wrap");
+    back(f, 0, s == 0 ? f.length : 0, "box_open");
+    back(k, 0, 0, "box_wrap");
+    back(h, 0, 0, "box_wrap");
+    back(d, 0, 0, "box_wrap");
+}
+
+int main(void) {
+    int i;
+    for (i = 0; i < ROUNDS; i++) {
+        of_two(box_encipher, 8, 0, 8, "box_encipher");
+        of_two(box_decipher, 8, 0, 8, "box_decipher");
+        of_two(box_code, 0, 1, 4, "box_code");
+        of_two(box_derive, 8, 0, 32, "box_derive");
+        of_two(box_script_key, 8, 0, 32, "box_script_key");
+        of_card(box_card_key, "box_card_key");
+        of_card(box_card_key_packed, "box_card_key_packed");
+        of_keys();
+        of_pin();
+        of_cryptogram();
+        of_message();
+    }
+    printf("%lu calls, %lu accepted, every number and every lent byte as it must be\n", calls, accepted);
+    return 0;
+}

@@ -4,7 +4,8 @@ use mathlib.Core.Bool.{Bool, true, false, not, cond, true≢false}
 use mathlib.Core.List.{List, [], _∷_}
 use Prim.Native.Nat.{ℕ, _+_, _-_, _<_, _≤_}
 use native.Mathlib.Omega.{arith}
-use borrow.Author.Tests.{not-true, not-false}
+use borrow.Author.Tests.{not-true, not-false, eqb-true}
+use lib.Dec.{eqb}
 use lib.ListN.{length, getD, take, drop, length-drop}
 use lib.Seq.{take-all, length-take-le}
 use Rattle.octets.specs.Same.{same}
@@ -13,9 +14,30 @@ use Rattle.message.specs.declared.Opened.the-variants.{Data, Refused}
 use Rattle.message.specs.Length.{largest, lengthOf, placeOf}
 use Rattle.message.specs.Shape.{tagFits, codeHead, bodySize, tagOf, bodyOf, codeIn, shape}
 use Rattle.message.specs.Code.{codeFor, given, codeFits}
-use Rattle.message.specs.Answers.{answer, shaped, openNumber, opened}
+use Rattle.message.specs.Answers.{number, values, answer, shaped, openNumber, opened}
 use Rattle.message.proofs.LengthLaws.{largest-small, place-small}
 use Rattle.message.proofs.ShapeLaws.{Good, good-shape, shape-good}
+
+-- an answer has its number, and on 0 its values
+pub number-answer : (r : ℕ) (m : List ℕ) → number (answer r m) ≡ r
+unfolding number answer
+number-answer r m = go (eqb r 0) refl
+  where
+    go : (b : Bool) → eqb r 0 ≡ b → number (cond b (Data (tagOf m) (placeOf (lengthOf m)) (lengthOf m)) (Refused r)) ≡ r
+    go true e = sym (eqb-true r 0 e)
+    go false e = refl
+
+pub values-answer : (m : List ℕ) → values (answer 0 m) ≡ tagOf m ∷ placeOf (lengthOf m) ∷ lengthOf m ∷ []
+unfolding values answer
+values-answer m = refl
+
+pub number-opened : (key header m : List ℕ) → number (opened key header m) ≡ openNumber key header m
+unfolding opened
+number-opened key header m = number-answer (openNumber key header m) m
+
+pub number-shaped : (m : List ℕ) → number (shaped m) ≡ cond (shape m) 0 4
+unfolding shaped
+number-shaped m = number-answer (cond (shape m) 0 4) m
 
 pub shaped-bad : (m : List ℕ) → shape m ≡ false → Refused 4 ≡ shaped m
 unfolding shaped answer
@@ -59,12 +81,12 @@ module _ (m : List ℕ) where
       unfolding tagOf
       shape-yes a b t w h u v i =
           let g : Good m =
-              record {
-                most = omega arith;
-                long = b ∙ ap (λ (k : ℕ). k + 6) at-end;
-                tagged = sym w ∙ not-false t h;
-                headed = ap (λ (k : ℕ). same (getD m k 0 ∷ getD m (k + 1) 0 ∷ []) codeHead) (sym at-end) ∙ sym v ∙ not-false u i
-              }
+          record {
+            most = omega arith;
+            long = b ∙ ap (λ (k : ℕ). k + 6) at-end;
+            tagged = sym w ∙ not-false t h;
+            headed = ap (λ (k : ℕ). same (getD m k 0 ∷ getD m (k + 1) 0 ∷ []) codeHead) (sym at-end) ∙ sym v ∙ not-false u i;
+          }
           in
           ap₂ (λ (x y : ℕ). Data (getD m 0 0) x y) (f ∙ ap placeOf e) e ∙ shaped-good m (good-shape m g)
 
@@ -96,7 +118,7 @@ told-data m r t p n e f = go (shape m) refl
           the-length = k;
           the-size = o .long ∙ ap₂ (λ (x y : ℕ). x + y + 6) (sym q) (sym k);
           small-place = omega arith;
-          small-length = omega (arith, largest-small)
+          small-length = omega (arith, largest-small);
         }
     go false g =
         let w : Data t p n ≡ Refused 4 = sym f ∙ e ∙ sym (shaped-bad m g) in

@@ -1,5 +1,5 @@
 -- The string under the code, and the code of it. Assumes nothing.
-use mathlib.Core.Path.{_≡_, refl, sym, ap, ap₂, _∙_}
+use mathlib.Core.Path.{_≡_, sym, ap, ap₂, _∙_}
 use mathlib.Core.Bool.{true, and-eq-true-iff}
 use mathlib.Core.List.{List, [], _∷_, _++_, append-assoc}
 use Prim.Native.Nat.{ℕ, suc, _+_, _-_, _%_, _≤_}
@@ -46,7 +46,7 @@ module _ (header : List ℕ) (h : length header ≡ 4) where
         let z = zeros (264 - (n + 1)) in
         let m : 264 - n ≡ suc (264 - (n + 1)) = omega arith in
         let r : drop (8 + n) d ≡ 0 ∷ z =
-            sym (drop-drop n 8 d) ∙ ap (drop n) (drop-at x (zeros 264) 8 length-X) ∙ drop-zeros n 264 ∙ ap zeros m
+        sym (drop-drop n 8 d) ∙ ap (drop n) (drop-at x (zeros 264) 8 length-X) ∙ drop-zeros n 264 ∙ ap zeros m
         in
         let a : length (x ++ body) ≡ 8 + n = length-append x body ∙ ap (λ (k : ℕ). k + n) length-X in
         ap₂ (λ (y w : List ℕ). set (y ++ take n body ++ w) (8 + n) 0x80) (take-at x (zeros 264) 8 length-X) r

@@ -1,6 +1,6 @@
 -- Strings laid over a buffer: one after the other, and through a part that is lent from a place on. Assumes nothing.
 use mathlib.Core.Path.{_≡_, refl, sym, ap, ap₂, _∙_}
-use mathlib.Core.List.{List, [], _∷_, _++_, append-assoc, append-nil}
+use mathlib.Core.List.{List, [], _++_, append-assoc, append-nil}
 use Prim.Native.Nat.{ℕ, _+_, _-_, _≤_}
 use native.Mathlib.Omega.{arith}
 use lib.ListN.{length, take, drop, length-append, length-drop, drop-of-length-le}
@@ -51,7 +51,7 @@ laid-lent b a x p s h e =
     ∙ ap (λ (y : List ℕ). take a b ++ y) (append-nil (take p q ++ s ++ drop (p + length s) q))
     ∙ sym (append-assoc (take a b) (take p q ++ s) (drop (p + length s) q))
     ∙ ap₂ (λ (y r : List ℕ). y ++ r) (sym (append-assoc (take a b) (take p q) s) ∙ ap (λ (y : List ℕ). y ++ s) (sym (take-add a p b)))
-      (drop-drop (p + length s) a b ∙ ap (λ (k : ℕ). drop k b) n)
+    (drop-drop (p + length s) a b ∙ ap (λ (k : ℕ). drop k b) n)
 
 -- laid over the whole
 pub laid-whole : (b s : List ℕ) → length b ≡ length s → laid b 0 s ≡ s

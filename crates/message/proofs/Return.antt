@@ -10,8 +10,7 @@ use lib.ListN.{length, take, drop, length-append}
 use Rattle.octets.specs.Same.{same}
 use Rattle.octets.proofs.SameLaws.{same-refl, same-true}
 use Rattle.cipher.proofs.CodeLaws.{length-codeOf}
-use Rattle.message.specs.declared.Opened.{Opened}
-use Rattle.message.specs.declared.Opened.the-variants.{Data, Refused}
+use Rattle.message.specs.declared.Opened.the-variants.{Data}
 use Rattle.message.specs.Length.{largest, lengthOf, placeOf}
 use Rattle.message.specs.Shape.{tagFits, body, bodySize, sizeOf, tagOf, dataOf, bodyOf, codeIn, shape}
 use Rattle.message.specs.Code.{codeFor, message, given, codeFits}
@@ -146,17 +145,17 @@ wrap-opened key header m tag place n b e l =
     let f : d ≡ dataOf m = ap₂ (λ (x y : ℕ). take x (drop y m)) (t .the-length) (t .the-place) in
     let g : body tag d ≡ bodyOf m = ap₂ body (t .the-tag) f ∙ sym (p .its-body) in
     let w : message key header tag d ≡ m =
-        ap (λ (x : List ℕ). x ++ codeFor key header x) g
-        ∙ ap₂ (λ (x y : List ℕ). x ++ y) (p .its-body) (sym (code-there key header m (t .coded-so)))
-        ∙ sym (p .whole)
+    ap (λ (x : List ℕ). x ++ codeFor key header x) g
+    ∙ ap₂ (λ (x y : List ℕ). x ++ y) (p .its-body) (sym (code-there key header m (t .coded-so)))
+    ∙ sym (p .whole)
     in
     let s : length d ≡ lengthOf m = ap length f ∙ p .sized in
     let o : length d ≤ largest = omega (arith, p .most) in
     let k : length m ≡ placeOf (length d) + length d + 6 = ap length (sym w) ∙ message-size key header tag d in
     let z : wrapNumber key header tag (length d) (length b) 0 ≡ 0 =
-        sym
-        (wrap-fits key header tag (length d) (length b) 0 true (sym (t .are-given)) refl true (sym (ap tagFits (t .the-tag) ∙ p .tagged)) refl o zero-le (placeOf (length d)) refl
-        (omega arith))
+    sym
+    (wrap-fits key header tag (length d) (length b) 0 true (sym (t .are-given)) refl true (sym (ap tagFits (t .the-tag) ∙ p .tagged)) refl o zero-le (placeOf (length d)) refl
+    (omega arith))
     in
     wrap-accepted key header tag d b 0 z
     ∙ ap (λ (x : List ℕ). record { code = 0; buffer = x }) (laid-whole b (message key header tag d) (l ∙ ap length (sym w)) ∙ w)

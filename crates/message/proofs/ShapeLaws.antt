@@ -1,12 +1,12 @@
 -- A message has good shape exactly when its bytes pass the tests of the code. Assumes nothing.
-use mathlib.Core.Path.{_≡_, refl, sym, ap, ap₂, _∙_, subst}
-use mathlib.Core.Bool.{Bool, true, false, _&&_, not, and-eq-true-iff}
+use mathlib.Core.Path.{_≡_, refl, sym, ap, ap₂, _∙_}
+use mathlib.Core.Bool.{true, and-eq-true-iff}
 use mathlib.Core.List.{List, [], _∷_, _++_, append-assoc}
-use Prim.Native.Nat.{ℕ, suc, _+_, _≤_, _<_}
+use Prim.Native.Nat.{ℕ, suc, _+_, _≤_}
 use native.Mathlib.Nat.{min-le-left, add-zero}
 use native.Mathlib.Omega.{arith}
 use borrow.Author.Tests.{eq-eqb, le-leb, eqb-true, leb-true}
-use lib.Dec.{leb, eqb}
+use lib.Dec.{leb}
 use lib.ListN.{length, getD, take, drop, length-append, length-take, length-drop, take-append-drop}
 use lib.Seq.{length-take-le, take-add, take-at, drop-at}
 use Rattle.octets.specs.Same.{same}
@@ -46,13 +46,13 @@ good-body m g =
     let f = lengthField n in
     let l = g .long in
     let q : take p m ≡ getD m 0 0 ∷ f =
-        ap (λ (k : ℕ). take k m) (place-is n) ∙ take-add 1 (length f) m
-        ∙ ap₂ (λ (x y : List ℕ). x ++ y) (elements-part m 0 1 (omega arith)) (field-read m (g .most) (omega arith))
+    ap (λ (k : ℕ). take k m) (place-is n) ∙ take-add 1 (length f) m
+    ∙ ap₂ (λ (x y : List ℕ). x ++ y) (elements-part m 0 1 (omega arith)) (field-read m (g .most) (omega arith))
     in
     take-add (p + n) 2 m
     ∙ ap₂ (λ (x y : List ℕ). x ++ y)
-      (take-add p n m ∙ ap (λ (x : List ℕ). x ++ take n (drop p m)) q)
-      (two-at m (p + n) (omega arith) ∙ same-true _ codeHead (g .headed))
+    (take-add p n m ∙ ap (λ (x : List ℕ). x ++ take n (drop p m)) q)
+    (two-at m (p + n) (omega arith) ∙ same-true _ codeHead (g .headed))
     ∙ ap (λ (k : ℕ). (getD m 0 0 ∷ lengthField k) ++ take n (drop p m) ++ codeHead) (sym (length-data m (omega arith)))
 
 good-code : (m : List ℕ) → Good m → length (codeIn m) ≡ 4
@@ -130,7 +130,7 @@ shape-parts m e =
       whole = w;
       its-body = q .2;
       sized = sym (ap lengthOf w ∙ length-read (tagOf m) (dataOf m) (drop k m) (omega (arith, q .1)));
-      four = q .3
+      four = q .3;
     }
 
 head-first : (c : List ℕ) → take 2 (codeHead ++ c) ≡ codeHead
@@ -146,14 +146,14 @@ shape-good m e =
     let s = q .sized in
     let b = length-body (tagOf m) d in
     let l : length m ≡ placeOf n + n + 6 =
-        ap length (q .whole) ∙ length-append (body (tagOf m) d) (codeIn m) ∙ ap₂ (λ (x y : ℕ). x + y) (b ∙ ap bodySize s) (q .four) ∙ omega arith
+    ap length (q .whole) ∙ length-append (body (tagOf m) d) (codeIn m) ∙ ap₂ (λ (x y : ℕ). x + y) (b ∙ ap bodySize s) (q .four) ∙ omega arith
     in
     let f = tagOf m ∷ lengthField (length d) ++ d in
     let i : length f ≡ placeOf n + n = length-append (tagOf m ∷ lengthField (length d)) d ∙ ap (λ (k : ℕ). k + length d) (length-head (tagOf m) (length d)) ∙ ap (λ (k : ℕ). placeOf k + k) s in
     let h : getD m (placeOf n + n) 0 ∷ getD m (placeOf n + n + 1) 0 ∷ [] ≡ codeHead =
-        sym (two-at m (placeOf n + n) (omega arith))
-        ∙ ap (λ (x : List ℕ). take 2 (drop (placeOf n + n) x)) (q .whole ∙ append-assoc f codeHead (codeIn m))
-        ∙ ap (take 2) (drop-at f (codeHead ++ codeIn m) (placeOf n + n) i)
-        ∙ head-first (codeIn m)
+    sym (two-at m (placeOf n + n) (omega arith))
+    ∙ ap (λ (x : List ℕ). take 2 (drop (placeOf n + n) x)) (q .whole ∙ append-assoc f codeHead (codeIn m))
+    ∙ ap (take 2) (drop-at f (codeHead ++ codeIn m) (placeOf n + n) i)
+    ∙ head-first (codeIn m)
     in
     record { most = q .most; long = l; tagged = q .tagged; headed = rw h (same-refl codeHead) }

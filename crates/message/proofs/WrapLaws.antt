@@ -1,14 +1,14 @@
 -- The writers of a message, and what wrapping answers, test by test. Assumes nothing.
 use mathlib.Core.Path.{_≡_, refl, sym, ap, ap₂, _∙_}
 use mathlib.Core.Bool.{Bool, true, false, _&&_, not, cond, and-false, and-eq-true-iff}
-use mathlib.Core.List.{List, [], _∷_, _++_, append-assoc}
-use Prim.Native.Nat.{ℕ, suc, _+_, _-_, _<_, _≤_}
+use mathlib.Core.List.{List, _∷_, _++_, append-assoc}
+use Prim.Native.Nat.{ℕ, _+_, _-_, _<_, _≤_}
 use native.Mathlib.Nat.{add-zero}
 use native.Mathlib.Numerals.{add-one, add-two, add-three}
 use native.Mathlib.Omega.{arith}
 use borrow.Author.Tests.{eq-eqb, ne-eqb, le-leb, lt-leb, leb-true, not-true, not-false}
 use borrow.Rule.Slice.PartMut.{putMid}
-use lib.Dec.{leb, eqb}
+use lib.Dec.{leb}
 use lib.ListN.{length, getD, take, drop, set}
 use lib.Seq.{paste, sets-eq, take-length, take-take}
 use Rattle.octets.proofs.Parts.{elements, elements-all}
@@ -94,7 +94,7 @@ accepted key header tag n size place e =
           most = m;
           room = omega arith;
           small-place = place-small n;
-          small-length = omega (arith, largest-small)
+          small-length = omega (arith, largest-small);
         }
     go true f false g h = absurd (omega arith)
     go false f b g h = absurd (omega arith)
@@ -211,5 +211,5 @@ module _ (key header : List ℕ) (tag : ℕ) (d b : List ℕ) (place : ℕ) wher
                   laid-lent (second x y) place w k (codeFor key header (take k s)) (omega arith) ew
                   ∙ ap₂ (λ (u c : List ℕ). laid u (place + k) (codeFor key header c)) data-laid body-there
                   ∙ laid-laid b place m (omega arith) (codeFor key header m) (place + k) (omega arith)
-                  ∙ ap (λ (r : Written). r .buffer) v
+                  ∙ ap (λ (r : Written). r .buffer) v;
             }

@@ -1,9 +1,8 @@
 // Script messages (R 1323565.1.008): their shape, their code, opening and wrapping.
 ghost use mathlib.Core.Path.{_≡_};
-ghost use mathlib.Core.Bool.{_&&_, true};
+ghost use mathlib.Core.Bool.{true};
 ghost use mathlib.Core.List.{[], _∷_, _++_};
 ghost use Prim.Native.Nat.{_+_, _≤_};
-ghost use lib.Dec.{eqb};
 ghost use lib.ListN.{length, take, replicate};
 ghost use Rattle.octets.specs.Same.{same};
 ghost use Rattle.message.specs.Length.{largest, lengthField, lengthOf, placeOf};
@@ -13,7 +12,8 @@ ghost use Rattle.message.specs.Answers.{shaped, opened, laid, wrapNumber
 
 mod command;
 
-pub use command::{Command, Listed};
+pub use command::Command;
+pub use command::Listed;
 
 // The tag, and the place and length of the data in the message; or a refusal's number.
 pub enum Opened {
@@ -145,7 +145,12 @@ pub fn code_fits(key: &[u8], header: &[u8], message: &[u8]) -> bool
     if !given(key, header) {
         return false;
     }
-    let Opened::Data { tag: _, place, length } = shape(message) else {
+    let Opened::Data {
+        tag: _,
+        place,
+        length,
+    } = shape(message)
+    else {
         return false;
     };
     let k = place + length + 2;

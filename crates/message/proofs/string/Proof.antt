@@ -25,7 +25,7 @@ loop-holds : tie.Need-loop-holds Inv-loop μ-loop
 loop-holds c = (omega arith, c .first-block .ensures ∙ paste-zero _ 8 (c .before .before .before .args .body .now))
 
 loop-again : tie.Need-loop-again Inv-loop μ-loop
-loop-again c = 
+loop-again c =
     let l = c .before .before .loop in
     let s = c .before .before .before .before .before .before in
     let h = s .args .header .now in
@@ -37,7 +37,7 @@ loop-again c =
     )
 
 returns : tie.Need-returns Inv-loop μ-loop
-returns c = 
+returns c =
     let l = c .before .loop in
     let s = c .before .before .before .before .before in
     let h = s .args .header .now in

@@ -1,5 +1,5 @@
 use Rattle.message.specs.Shape.{bodySize}
-use mathlib.Core.Path.{_≡_, refl, sym, ap, ap₂, _∙_}
+use mathlib.Core.Path.{_≡_, refl, sym, ap, _∙_}
 use mathlib.Core.List.{List, _++_}
 use Prim.Native.Nat.{ℕ, _+_, _-_, _≤_}
 use native.Mathlib.Omega.{arith}
@@ -7,7 +7,6 @@ use native.Mathlib.Numerals.{add-one}
 use borrow.Author.Needs.{needs}
 use lib.ListN.{length, set, getD, length-set}
 use lib.Seq.{paste, paste-zero, paste-suc}
-use Rattle.message.specs.Length.{placeOf}
 use Rattle.message.specs.Shape.{codeHead}
 use Rattle.message.specs.Answers.{laid}
 use Rattle.message.proofs.WrapLaws.{data-stored}
@@ -33,7 +32,7 @@ slice-write-part c = omega arith
 
 loop-again : tie.Need-loop-again Inv-loop μ-loop
 unfolding bodySize
-loop-again c = 
+loop-again c =
     let l = c .before .before .loop in
     let p = c .before .before .before .place-of .result in
     let x = c .before .before .before .before .before .before .args in
@@ -69,7 +68,7 @@ same-length c = simp length-set (c .before .loop .inv .1)
 
 returns : tie.Need-returns Inv-loop μ-loop
 unfolding bodySize
-returns c = 
+returns c =
     let l = c .before .loop in
     let p = c .before .before .place-of .result in
     let x = c .before .before .before .before .before .args in

@@ -143,8 +143,7 @@ module _ (key header : List ℕ) (tag : ℕ) (d b : List ℕ) (place : ℕ) wher
       pub place-fits-first : place ≤ length (first x)
       place-fits-first = let l = length-first in let p = place-fits in omega arith
 
-      pub data-room : bodySize (length d) ≤ length (take (length (first x) - place) (drop place (first x)))
-      unfolding bodySize
+      pub data-room : placeOf (length d) + length d + 2 ≤ length (take (length (first x) - place) (drop place (first x)))
       data-room =
           let a = accepted key header tag (length d) (length b) place z in
           let f = length-first in
@@ -174,8 +173,7 @@ module _ (key header : List ℕ) (tag : ℕ) (d b : List ℕ) (place : ℕ) wher
         pub place-fits-second : place ≤ length (second x y)
         place-fits-second = let l = length-second in let p = place-fits in omega arith
 
-        pub code-room : bodySize (length d) + 4 ≤ length (take (length (second x y) - place) (drop place (second x y)))
-        unfolding bodySize
+        pub code-room : placeOf (length d) + length d + 6 ≤ length (take (length (second x y) - place) (drop place (second x y)))
         code-room =
             let a = accepted key header tag (length d) (length b) place z in
             let f = length-second in

@@ -4,7 +4,8 @@ use mathlib.Core.Bool.{Bool, true, false, not, cond, true≢false}
 use mathlib.Core.List.{List, [], _∷_}
 use Prim.Native.Nat.{ℕ, _+_, _-_, _<_, _≤_}
 use native.Mathlib.Omega.{arith}
-use borrow.Author.Tests.{not-true, not-false}
+use borrow.Author.Tests.{not-true, not-false, eqb-true}
+use lib.Dec.{eqb}
 use lib.ListN.{length, getD, take, drop, length-drop}
 use lib.Seq.{take-all, length-take-le}
 use Rattle.octets.specs.Same.{same}
@@ -13,9 +14,30 @@ use Rattle.message.specs.declared.Opened.the-variants.{Data, Refused}
 use Rattle.message.specs.Length.{largest, lengthOf, placeOf}
 use Rattle.message.specs.Shape.{tagFits, codeHead, bodySize, tagOf, bodyOf, codeIn, shape}
 use Rattle.message.specs.Code.{codeFor, given, codeFits}
-use Rattle.message.specs.Answers.{answer, shaped, openNumber, opened}
+use Rattle.message.specs.Answers.{number, values, answer, shaped, openNumber, opened}
 use Rattle.message.proofs.LengthLaws.{largest-small, place-small}
 use Rattle.message.proofs.ShapeLaws.{Good, good-shape, shape-good}
+
+-- an answer has its number, and on 0 its values
+pub number-answer : (r : ℕ) (m : List ℕ) → number (answer r m) ≡ r
+unfolding number answer
+number-answer r m = go (eqb r 0) refl
+  where
+    go : (b : Bool) → eqb r 0 ≡ b → number (cond b (Data (tagOf m) (placeOf (lengthOf m)) (lengthOf m)) (Refused r)) ≡ r
+    go true e = sym (eqb-true r 0 e)
+    go false e = refl
+
+pub values-answer : (m : List ℕ) → values (answer 0 m) ≡ tagOf m ∷ placeOf (lengthOf m) ∷ lengthOf m ∷ []
+unfolding values answer
+values-answer m = refl
+
+pub number-opened : (key header m : List ℕ) → number (opened key header m) ≡ openNumber key header m
+unfolding opened
+number-opened key header m = number-answer (openNumber key header m) m
+
+pub number-shaped : (m : List ℕ) → number (shaped m) ≡ cond (shape m) 0 4
+unfolding shaped
+number-shaped m = number-answer (cond (shape m) 0 4) m
 
 pub shaped-bad : (m : List ℕ) → shape m ≡ false → Refused 4 ≡ shaped m
 unfolding shaped answer

@@ -1,11 +1,13 @@
--- Which command a header, a tag and a length are for, test by test. Assumes nothing.
-use mathlib.Core.Path.{_≡_, sym, ap, _∙_}
-use mathlib.Core.Bool.{Bool, true, false, not, and-false}
+-- Which command a header, a tag and a length are for, test by test and exactly. Assumes nothing.
+use mathlib.Core.Path.{_≡_, refl, sym, ap, _∙_}
+use mathlib.Core.Bool.{Bool, true, false, not, cond, and-false, and-eq-true-iff}
 use mathlib.Core.List.{List}
 use Prim.Native.Nat.{ℕ}
-use borrow.Author.Tests.{eq-eqb, ne-eqb, not-true, not-false}
+use native.Mathlib.Omega.{arith}
+use borrow.Author.Tests.{eq-eqb, ne-eqb, not-true, not-false, eqb-true}
 use lib.Dec.{eqb}
 use Rattle.octets.specs.Same.{same}
+use Rattle.octets.proofs.SameLaws.{same-true}
 use Rattle.message.specs.declared.command.Command.{Command}
 use Rattle.message.specs.declared.command.Command.the-variants.{SetPin, SetMark, ClearMark}
 use Rattle.message.specs.declared.command.Listed.the-variants.{One, Unlisted}
@@ -46,3 +48,36 @@ module _ (header : List ℕ) (tag n : ℕ) (a : Bool) (e : a ≡ isFor SetPin he
       pub none-listed : c ≡ false → Unlisted ≡ commandOf header tag n
       unfolding commandOf firstOf listed
       none-listed z = simp (sym e ∙ x, sym f ∙ y, sym g ∙ z)
+
+-- header, tag and length of a command
+abbrev pub Its : Command → List ℕ → ℕ → ℕ → Type 0
+Its k header tag n = (header ≡ headerOf k) × (tag ≡ tagFor k) × (n ≡ lengthFor k)
+
+is-its : (k : Command) (header : List ℕ) (tag n : ℕ) → isFor k header tag n ≡ true → Its k header tag n
+unfolding isFor
+is-its k header tag n e =
+    let a = and-eq-true-iff (same header (headerOf k)) _ .0 e in
+    let b = and-eq-true-iff (eqb tag (tagFor k)) _ .0 (a .1) in
+    (same-true _ _ (a .0), eqb-true _ _ (b .0), eqb-true _ _ (b .1))
+
+-- a command that is found is the one that the bytes say
+pub listed-its : (header : List ℕ) (tag n : ℕ) (k : Command) → commandOf header tag n ≡ One k → Its k header tag n
+unfolding commandOf firstOf listed
+listed-its header tag n k e = go (isFor SetPin header tag n) refl (isFor SetMark header tag n) refl (isFor ClearMark header tag n) refl e
+  where
+    found : (j : Command) → isFor j header tag n ≡ true → One j ≡ One k → Its k header tag n
+    found j f w = let z : j ≡ k = cc in is-its k header tag n (ap (λ (i : Command). isFor i header tag n) (sym z) ∙ f)
+
+    go : (a : Bool) → isFor SetPin header tag n ≡ a → (b : Bool) → isFor SetMark header tag n ≡ b → (c : Bool) → isFor ClearMark header tag n ≡ c
+        → cond a (One SetPin) (cond b (One SetMark) (cond c (One ClearMark) Unlisted)) ≡ One k → Its k header tag n
+    go true f b g c h w = found SetPin f w
+    go false f true g c h w = found SetMark g w
+    go false f false g true h w = found ClearMark h w
+    go false f false g false h w = let z : _≡_ {A = ℕ} 0 1 = cc in absurd (omega arith)
+
+-- and each is found by its bytes
+pub its-listed : (k : Command) → commandOf (headerOf k) (tagFor k) (lengthFor k) ≡ One k
+unfolding commandOf firstOf listed isFor headerOf tagFor lengthFor same
+its-listed SetPin = refl
+its-listed SetMark = refl
+its-listed ClearMark = refl

@@ -10,8 +10,7 @@ use lib.ListN.{length, take, drop, length-append}
 use Rattle.octets.specs.Same.{same}
 use Rattle.octets.proofs.SameLaws.{same-refl, same-true}
 use Rattle.cipher.proofs.CodeLaws.{length-codeOf}
-use Rattle.message.specs.declared.Opened.{Opened}
-use Rattle.message.specs.declared.Opened.the-variants.{Data, Refused}
+use Rattle.message.specs.declared.Opened.the-variants.{Data}
 use Rattle.message.specs.Length.{largest, lengthOf, placeOf}
 use Rattle.message.specs.Shape.{tagFits, body, bodySize, sizeOf, tagOf, dataOf, bodyOf, codeIn, shape}
 use Rattle.message.specs.Code.{codeFor, message, given, codeFits}

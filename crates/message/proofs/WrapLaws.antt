@@ -1,14 +1,14 @@
 -- The writers of a message, and what wrapping answers, test by test. Assumes nothing.
 use mathlib.Core.Path.{_≡_, refl, sym, ap, ap₂, _∙_}
 use mathlib.Core.Bool.{Bool, true, false, _&&_, not, cond, and-false, and-eq-true-iff}
-use mathlib.Core.List.{List, [], _∷_, _++_, append-assoc}
-use Prim.Native.Nat.{ℕ, suc, _+_, _-_, _<_, _≤_}
+use mathlib.Core.List.{List, _∷_, _++_, append-assoc}
+use Prim.Native.Nat.{ℕ, _+_, _-_, _<_, _≤_}
 use native.Mathlib.Nat.{add-zero}
 use native.Mathlib.Numerals.{add-one, add-two, add-three}
 use native.Mathlib.Omega.{arith}
 use borrow.Author.Tests.{eq-eqb, ne-eqb, le-leb, lt-leb, leb-true, not-true, not-false}
 use borrow.Rule.Slice.PartMut.{putMid}
-use lib.Dec.{leb, eqb}
+use lib.Dec.{leb}
 use lib.ListN.{length, getD, take, drop, set}
 use lib.Seq.{paste, sets-eq, take-length, take-take}
 use Rattle.octets.proofs.Parts.{elements, elements-all}
@@ -143,8 +143,7 @@ module _ (key header : List ℕ) (tag : ℕ) (d b : List ℕ) (place : ℕ) wher
       pub place-fits-first : place ≤ length (first x)
       place-fits-first = let l = length-first in let p = place-fits in omega arith
 
-      pub data-room : bodySize (length d) ≤ length (take (length (first x) - place) (drop place (first x)))
-      unfolding bodySize
+      pub data-room : placeOf (length d) + length d + 2 ≤ length (take (length (first x) - place) (drop place (first x)))
       data-room =
           let a = accepted key header tag (length d) (length b) place z in
           let f = length-first in
@@ -174,8 +173,7 @@ module _ (key header : List ℕ) (tag : ℕ) (d b : List ℕ) (place : ℕ) wher
         pub place-fits-second : place ≤ length (second x y)
         place-fits-second = let l = length-second in let p = place-fits in omega arith
 
-        pub code-room : bodySize (length d) + 4 ≤ length (take (length (second x y) - place) (drop place (second x y)))
-        unfolding bodySize
+        pub code-room : placeOf (length d) + length d + 6 ≤ length (take (length (second x y) - place) (drop place (second x y)))
         code-room =
             let a = accepted key header tag (length d) (length b) place z in
             let f = length-second in

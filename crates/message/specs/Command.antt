@@ -40,6 +40,11 @@ unfoldable pub firstOf : List Command → List ℕ → ℕ → ℕ → Listed
 firstOf [] header tag n = Unlisted
 firstOf (c ∷ cs) header tag n = cond (isFor c header tag n) (One c) (firstOf cs header tag n)
 
--- "class, instruction, parameters, tag or L not one listed" is Unlisted (refusal 5)
+-- the command that header, tag and L are for
 unfoldable pub commandOf : List ℕ → ℕ → ℕ → Listed
 commandOf header tag n = firstOf listed header tag n
+
+-- 01's number of an answer: "class, instruction, parameters, tag or L not one listed" is 5
+unfoldable pub refusal : Listed → ℕ
+refusal (One c) = 0
+refusal Unlisted = 5

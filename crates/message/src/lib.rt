@@ -1,9 +1,8 @@
 // Script messages (R 1323565.1.008): their shape, their code, opening and wrapping.
 ghost use mathlib.Core.Path.{_≡_};
-ghost use mathlib.Core.Bool.{_&&_, true};
+ghost use mathlib.Core.Bool.{true};
 ghost use mathlib.Core.List.{[], _∷_, _++_};
 ghost use Prim.Native.Nat.{_+_, _≤_};
-ghost use lib.Dec.{eqb};
 ghost use lib.ListN.{length, take, replicate};
 ghost use Rattle.octets.specs.Same.{same};
 ghost use Rattle.message.specs.Length.{largest, lengthField, lengthOf, placeOf};
@@ -186,7 +185,7 @@ fn write_tag(part: &mut [u8], tag: u8, n: usize)
 
 // Writes the data at their place, and what stands ahead of the code.
 fn write_data(part: &mut [u8], data: &[u8])
-    requires { ⌜ (length (now «data») ≤ largest) × (bodySize (length (now «data»)) ≤ length (now part)) ⌝ }
+    requires { ⌜ (length (now «data») ≤ largest) × (placeOf (length (now «data»)) + length (now «data») + 2 ≤ length (now part)) ⌝ }
     ensures { λ _. ⌜ now (part .exit) ≡ laid (now (part .entry)) (placeOf (length (now («data» .entry)))) (now («data» .entry) ++ codeHead) ⌝ }
 {
     let n = data.len();
@@ -202,7 +201,7 @@ fn write_data(part: &mut [u8], data: &[u8])
 
 // Writes the code of what stands before it in a message with n bytes of data.
 fn write_code(part: &mut [u8], key: &[u8], header: &[u8], n: usize)
-    requires { ⌜ (areGiven (now key) (now header) ≡ true) × (n ≤ largest) × (bodySize n + 4 ≤ length (now part)) ⌝ }
+    requires { ⌜ (areGiven (now key) (now header) ≡ true) × (n ≤ largest) × (placeOf n + n + 6 ≤ length (now part)) ⌝ }
     ensures { λ _. ⌜ now (part .exit) ≡ laid (now (part .entry)) (bodySize n) (codeFor (now (key .entry)) (now (header .entry)) (take (bodySize n) (now (part .entry)))) ⌝ }
 {
     let k = place_of(n) + n + 2;

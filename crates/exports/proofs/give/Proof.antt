@@ -16,7 +16,7 @@ abbrev μ-loop : tie.MeasureT-loop
 μ-loop code bytes out₀ i₀ out i = length bytes - i
 
 returns : tie.Need-returns Inv-loop μ-loop
-returns c = given-length _ _ _ _ (c .if1 .taken)
+returns c = given-length _ _ _ _ (λ e. omega arith)
 
 returns-2 : tie.Need-returns-2 Inv-loop μ-loop
 returns-2 c = given-refused _ _ _ _ (c .before .if1 .left) (c .if2 .taken)

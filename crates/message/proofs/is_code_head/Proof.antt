@@ -1,5 +1,4 @@
 use borrow.Author.Tests.{eq-eqb, ne-eqb}
-use mathlib.Core.Path.{sym}
 use mathlib.Core.Bool.{and-true}
 use Rattle.octets.specs.Same.{same}
 use Rattle.message.specs.Shape.{codeHead}

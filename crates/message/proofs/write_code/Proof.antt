@@ -1,11 +1,10 @@
 use mathlib.Core.Path.{_≡_, sym, ap, ap₂, _∙_}
 use mathlib.Core.List.{List}
-use Prim.Native.Nat.{ℕ, _+_, _≤_}
+use Prim.Native.Nat.{ℕ, _+_}
 use native.Mathlib.Omega.{arith}
 use lib.ListN.{length, take, length-set}
 use lib.Seq.{length-take-le}
 use denote.Ref.{now}
-use Rattle.message.specs.Length.{largest}
 use Rattle.message.specs.Shape.{bodySize}
 use Rattle.message.specs.Code.{codeFor}
 use Rattle.message.specs.Answers.{laid}
@@ -21,49 +20,15 @@ add-k c = record { fits = omega (arith, place-small (c .before .before .before .
 add-k-2 : tie.Need-add-k-2
 add-k-2 c = record { fits = omega (arith, place-small (c .before .before .before .before .args .n), largest-small) }
 
-slice-reshare-prefix-code-for : tie.Need-slice-reshare-prefix-code-for
-unfolding bodySize
-slice-reshare-prefix-code-for c = omega arith
-
 slice-aggregate-code-for : tie.Need-slice-aggregate-code-for
-unfolding bodySize
 slice-aggregate-code-for c = sym (length-take-le _ (c .before .before .before .before .before .args .part .now) (omega arith))
 
 code-for-requires : tie.Need-code-for-requires
-unfolding bodySize
 code-for-requires c κs =
     let s = c .before .before .before .before .before in
     let k = c .before .place-of .result + s .args .n + 2 in
     let l : length (take k (s .args .part .now)) ≡ k = length-take-le k (s .args .part .now) (omega arith) in
     (s .pre .0, omega (arith, place-small (s .args .n), largest-small))
-
-slice-write-part : tie.Need-slice-write-part
-unfolding bodySize
-slice-write-part c = omega arith
-
-add-part : tie.Need-add-part
-unfolding bodySize
-add-part c = omega arith
-
-slice-write-part-2 : tie.Need-slice-write-part-2
-unfolding bodySize
-slice-write-part-2 c = simp length-set (omega arith)
-
-add-part-2 : tie.Need-add-part-2
-unfolding bodySize
-add-part-2 c = omega arith
-
-slice-write-part-3 : tie.Need-slice-write-part-3
-unfolding bodySize
-slice-write-part-3 c = simp length-set (omega arith)
-
-add-part-3 : tie.Need-add-part-3
-unfolding bodySize
-add-part-3 c = omega arith
-
-slice-write-part-4 : tie.Need-slice-write-part-4
-unfolding bodySize
-slice-write-part-4 c = simp length-set (omega arith)
 
 returns : tie.Need-returns
 unfolding bodySize
@@ -83,19 +48,19 @@ write-code-spec =
     (λ c κs. search needs)
     add-k
     add-k-2
-    slice-reshare-prefix-code-for
+    (λ c. omega arith)
     slice-aggregate-code-for
     code-for-requires
     (λ c. search needs)
-    slice-write-part
+    (λ c. omega arith)
     (λ c. search needs)
-    add-part
-    slice-write-part-2
+    (λ c. omega arith)
+    (λ c. simp length-set (omega arith))
     (λ c. search needs)
-    add-part-2
-    slice-write-part-3
+    (λ c. omega arith)
+    (λ c. simp length-set (omega arith))
     (λ c. search needs)
-    add-part-3
-    slice-write-part-4
+    (λ c. omega arith)
+    (λ c. simp length-set (omega arith))
     (λ c. search needs)
     returns)

@@ -1,5 +1,4 @@
-use Rattle.message.specs.Shape.{bodySize}
-use mathlib.Core.Path.{_≡_, refl, sym, ap, ap₂, _∙_}
+use mathlib.Core.Path.{_≡_, refl, sym, ap, _∙_}
 use mathlib.Core.List.{List, _++_}
 use Prim.Native.Nat.{ℕ, _+_, _-_, _≤_}
 use native.Mathlib.Omega.{arith}
@@ -7,7 +6,6 @@ use native.Mathlib.Numerals.{add-one}
 use borrow.Author.Needs.{needs}
 use lib.ListN.{length, set, getD, length-set}
 use lib.Seq.{paste, paste-zero, paste-suc}
-use Rattle.message.specs.Length.{placeOf}
 use Rattle.message.specs.Shape.{codeHead}
 use Rattle.message.specs.Answers.{laid}
 use Rattle.message.proofs.WrapLaws.{data-stored}
@@ -23,16 +21,7 @@ abbrev μ-loop : tie.MeasureT-loop
 loop-holds : tie.Need-loop-holds Inv-loop μ-loop
 loop-holds c = let x = c .before .before .before .args in (omega arith, refl, paste-zero (x .part .now) (c .place-of .result) (x .«data» .now))
 
-add-part : tie.Need-add-part Inv-loop μ-loop
-unfolding bodySize
-add-part c = search needs
-
-slice-write-part : tie.Need-slice-write-part Inv-loop μ-loop
-unfolding bodySize
-slice-write-part c = omega arith
-
 loop-again : tie.Need-loop-again Inv-loop μ-loop
-unfolding bodySize
 loop-again c =
     let l = c .before .before .loop in
     let p = c .before .before .before .place-of .result in
@@ -44,31 +33,10 @@ loop-again c =
       ap (λ (t : List ℕ). set t (p + l .i) (getD d (l .i) 0)) (l .inv .2) ∙ paste-suc b p d (l .i) 0 (omega arith) (omega arith) ∙ ap (paste b p d) (sym (add-one (l .i))),
     )
 
-add-part-2 : tie.Need-add-part-2 Inv-loop μ-loop
-unfolding bodySize
-add-part-2 c = search needs
-
-slice-write-part-2 : tie.Need-slice-write-part-2 Inv-loop μ-loop
-unfolding bodySize
-slice-write-part-2 c = omega arith
-
-add-part-3 : tie.Need-add-part-3 Inv-loop μ-loop
-unfolding bodySize
-add-part-3 c = search needs
-
-add-part-4 : tie.Need-add-part-4 Inv-loop μ-loop
-unfolding bodySize
-add-part-4 c = search needs
-
-slice-write-part-3 : tie.Need-slice-write-part-3 Inv-loop μ-loop
-unfolding bodySize
-slice-write-part-3 c = simp length-set (omega arith)
-
 same-length : tie.Need-same-length Inv-loop μ-loop
 same-length c = simp length-set (c .before .loop .inv .1)
 
 returns : tie.Need-returns Inv-loop μ-loop
-unfolding bodySize
 returns c =
     let l = c .before .loop in
     let p = c .before .before .place-of .result in
@@ -88,15 +56,15 @@ write-data-spec =
     (λ c κs. search needs)
     loop-holds
     (λ c. omega arith)
-    add-part
-    slice-write-part
+    (λ c. search needs)
+    (λ c. omega arith)
     (λ c. search needs)
     (λ c. omega arith)
     loop-again
-    add-part-2
-    slice-write-part-2
-    add-part-3
-    add-part-4
-    slice-write-part-3
+    (λ c. search needs)
+    (λ c. omega arith)
+    (λ c. search needs)
+    (λ c. search needs)
+    (λ c. simp length-set (omega arith))
     same-length
     returns)

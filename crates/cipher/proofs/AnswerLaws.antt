@@ -7,7 +7,8 @@ use borrow.Author.Tests.{eq-eqb, ne-eqb}
 use lib.ListN.{length}
 use Rattle.cipher.specs.Gost.{subkeys}
 use Rattle.cipher.specs.Code.{codeOf}
-use Rattle.cipher.specs.Answers.{keyFits, blockFits, stringFits, noBlock, noCode, blockAnswer, codedWith, coded}
+use Rattle.octets.specs.Lengths.{keyFits}
+use Rattle.cipher.specs.Answers.{blockFits, stringFits, noBlock, noCode, blockAnswer, codedWith, coded}
 
 module _ (key b x : List ℕ) where
   pub no-key : (length key ≡ 32 → ⊥) → noBlock ≡ blockAnswer key b x

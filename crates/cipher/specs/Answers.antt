@@ -4,15 +4,13 @@ use mathlib.Core.Bool.{Bool, _&&_, not, cond}
 use mathlib.Core.List.{List}
 use lib.Dec.{eqb}
 use lib.ListN.{length, replicate}
+use Rattle.octets.specs.Lengths.{keyFits}
 use Rattle.cipher.specs.declared.BlockAnswer.{BlockAnswer}
 use Rattle.cipher.specs.declared.CodeAnswer.{CodeAnswer}
 use Rattle.cipher.specs.Gost.{subkeys, encipher, decipher}
 use Rattle.cipher.specs.Code.{codeOf}
 
--- 01: a key is 32 bytes; a block is 8; "a string for the code" is one or more whole blocks, else 1
-unfoldable pub keyFits : List ℕ → Bool
-keyFits key = eqb (length key) 32
-
+-- 01: a block is 8 bytes; "a string for the code" is one or more whole blocks, else 1
 unfoldable pub blockFits : List ℕ → Bool
 blockFits b = eqb (length b) 8
 

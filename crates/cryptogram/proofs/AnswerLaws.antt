@@ -8,7 +8,8 @@ use borrow.Author.Tests.{eq-eqb, ne-eqb}
 use lib.ListN.{length}
 use Rattle.cipher.specs.declared.CodeAnswer.{CodeAnswer}
 use Rattle.cipher.specs.Gost.{subkeys}
-use Rattle.cipher.specs.Answers.{keyFits, coded, codedWith}
+use Rattle.octets.specs.Lengths.{keyFits}
+use Rattle.cipher.specs.Answers.{coded, codedWith}
 use Rattle.cipher.proofs.AnswerLaws.{string-fits, code-key}
 use Rattle.cryptogram.specs.declared.Kind.{Kind}
 use Rattle.cryptogram.specs.declared.Kind.the-variants.{Arqc, Tc, Aac}

@@ -5,7 +5,7 @@ use mathlib.Core.List.{List}
 use lib.Dec.{eqb}
 use lib.ListN.{length, replicate}
 use Rattle.cipher.specs.Gost.{subkeys}
-use Rattle.cipher.specs.Answers.{keyFits}
+use Rattle.octets.specs.Lengths.{keyFits}
 use Rattle.cryptogram.specs.declared.Answer.{Answer}
 use Rattle.cryptogram.specs.declared.Kind.{Kind}
 use Rattle.cryptogram.specs.declared.Kind.the-variants.{Arqc, Tc, Aac}

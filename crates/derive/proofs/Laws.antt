@@ -14,7 +14,8 @@ use Rattle.derive.specs.declared.Started.{Started}
 use Rattle.derive.specs.Hmac.{ipad, opad, hmac}
 use Rattle.derive.specs.Derivation.{string, derived, cardLabel}
 use Rattle.derive.specs.Started.{started, hmacWith, derivedWith}
-use Rattle.derive.specs.Answers.{keyFits, seedFits, noKey, yes, maced, derivation}
+use Rattle.octets.specs.Lengths.{keyFits}
+use Rattle.derive.specs.Answers.{seedFits, noKey, yes, maced, derivation}
 
 two-parts : (x y : List ℕ) → ended (fed (fed begun x) y) ≡ hash256 (x ++ y)
 two-parts x y = ap ended (fed-fed begun x y) ∙ ended-fed (x ++ y)

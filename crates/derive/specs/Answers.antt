@@ -4,14 +4,12 @@ use mathlib.Core.Bool.{Bool, _&&_, cond}
 use mathlib.Core.List.{List}
 use lib.Dec.{eqb}
 use lib.ListN.{length, replicate}
+use Rattle.octets.specs.Lengths.{keyFits}
 use Rattle.derive.specs.declared.KeyAnswer.{KeyAnswer}
 use Rattle.derive.specs.Hmac.{hmac}
 use Rattle.derive.specs.Derivation.{derived, cardLabel}
 
--- 01: a key is 32 bytes, a seed is 8
-unfoldable pub keyFits : List ℕ → Bool
-keyFits key = eqb (length key) 32
-
+-- 01: a seed is 8 bytes
 unfoldable pub seedFits : List ℕ → Bool
 seedFits seed = eqb (length seed) 8
 

@@ -8,7 +8,8 @@ use lib.ListN.{length, take, replicate}
 use Rattle.hash.specs.Hash.{hash256}
 use Rattle.cipher.specs.declared.BlockAnswer.{BlockAnswer}
 use Rattle.cipher.specs.Gost.{encipher}
-use Rattle.derive.specs.Answers.{keyFits, noKey, yes, derivation}
+use Rattle.octets.specs.Lengths.{keyFits}
+use Rattle.derive.specs.Answers.{noKey, yes, derivation}
 use Rattle.derive.proofs.Laws.{fits}
 use Rattle.keys.specs.CardNumber.{cardFits}
 use Rattle.octets.specs.Numbers.{beOctets, leOctets}

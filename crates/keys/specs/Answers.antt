@@ -8,7 +8,8 @@ use Rattle.cipher.specs.Gost.{encipher}
 use Rattle.hash.specs.Hash.{hash256}
 use Rattle.derive.specs.declared.KeyAnswer.{KeyAnswer}
 use Rattle.derive.specs.Derivation.{derived, cardLabel}
-use Rattle.derive.specs.Answers.{keyFits, noKey, yes, derivation}
+use Rattle.octets.specs.Lengths.{keyFits}
+use Rattle.derive.specs.Answers.{noKey, yes, derivation}
 use Rattle.keys.specs.declared.IdnAnswer.{IdnAnswer}
 use Rattle.keys.specs.CardNumber.{cardFits, Y, packedY}
 use Rattle.keys.specs.Seeds.{sessionSeed, idnBlock}

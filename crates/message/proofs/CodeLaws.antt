@@ -12,7 +12,8 @@ use Rattle.octets.proofs.Parts.{zeros, drop-zeros}
 use Rattle.cipher.specs.declared.CodeAnswer.{CodeAnswer}
 use Rattle.cipher.specs.Gost.{subkeys}
 use Rattle.cipher.specs.Code.{codeOf}
-use Rattle.cipher.specs.Answers.{keyFits, coded}
+use Rattle.octets.specs.Lengths.{keyFits}
+use Rattle.cipher.specs.Answers.{coded}
 use Rattle.cipher.proofs.AnswerLaws.{code-key, string-fits}
 use Rattle.message.specs.Code.{X, Y, codeFor, given}
 

@@ -7,7 +7,7 @@ use lib.ListN.{length, replicate}
 use Rattle.octets.specs.Same.{same}
 use Rattle.cipher.specs.Gost.{subkeys}
 use Rattle.cipher.specs.Code.{codeOf}
-use Rattle.cipher.specs.Answers.{keyFits}
+use Rattle.octets.specs.Lengths.{keyFits}
 use Rattle.message.specs.Shape.{body, bodyOf, codeIn, shape}
 
 -- 4.1.1: X is CLA, INS, P1, P2, 80 00 00 00: 8 bytes

@@ -1,3 +1,4 @@
 pub mod Numbers
 pub mod Same
 pub mod Digits
+pub mod Lengths

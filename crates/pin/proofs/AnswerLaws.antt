@@ -10,7 +10,8 @@ use lib.Seq.{length-take-le}
 use Rattle.octets.proofs.DigitLaws.{digits-length}
 use Rattle.cipher.specs.declared.BlockAnswer.{BlockAnswer}
 use Rattle.cipher.specs.Gost.{encipher, decipher}
-use Rattle.cipher.specs.Answers.{keyFits, blockFits, noBlock as none, blockAnswer, enciphered, deciphered}
+use Rattle.octets.specs.Lengths.{keyFits}
+use Rattle.cipher.specs.Answers.{blockFits, noBlock as none, blockAnswer, enciphered, deciphered}
 use Rattle.cipher.proofs.AnswerLaws.{fits as block-fits}
 use Rattle.pin.specs.PinBlock.{pinFits, halves, fields, pinBlock, wellFormed, pinOf}
 use Rattle.pin.specs.Answers.{written, noBlock, found, noPin, writePin, readBlock, readPin, encipherPin, decipherPin}

@@ -13,7 +13,8 @@ use Rattle.octets.specs.Digits.{digits}
 use Rattle.octets.proofs.DigitLaws.{digits-filled, digits-refilled}
 use Rattle.octets.proofs.Parts.{elements-all}
 use Rattle.cipher.specs.Gost.{encipher, decipher}
-use Rattle.cipher.specs.Answers.{keyFits, blockFits}
+use Rattle.octets.specs.Lengths.{keyFits}
+use Rattle.cipher.specs.Answers.{blockFits}
 use Rattle.cipher.proofs.Inverse.{length-encipher, length-decipher, decipher-encipher, encipher-decipher}
 use Rattle.pin.specs.declared.PinBlock.{PinBlock}
 use Rattle.pin.specs.declared.PinRead.{PinRead}

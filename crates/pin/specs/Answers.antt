@@ -4,7 +4,8 @@ use mathlib.Core.Bool.{_&&_, cond}
 use mathlib.Core.List.{List, _++_}
 use lib.ListN.{length, take, replicate}
 use Rattle.cipher.specs.Gost.{encipher, decipher}
-use Rattle.cipher.specs.Answers.{keyFits, blockFits}
+use Rattle.octets.specs.Lengths.{keyFits}
+use Rattle.cipher.specs.Answers.{blockFits}
 use Rattle.pin.specs.declared.PinBlock.{PinBlock}
 use Rattle.pin.specs.declared.PinRead.{PinRead}
 use Rattle.pin.specs.PinBlock.{pinFits, halves, pinBlock, wellFormed, pinOf}

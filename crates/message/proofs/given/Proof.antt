@@ -1,5 +1,5 @@
 use borrow.Author.Tests.{eq-eqb, ne-eqb}
-use Rattle.cipher.specs.Answers.{keyFits}
+use Rattle.octets.specs.Lengths.{keyFits}
 use Rattle.message.specs.Code.{given}
 use Rattle.message.proofs.given.Statement.{statement}
 use Rattle.message.proofs.given.Tie as tie

@@ -3,16 +3,16 @@
  *     box COMMAND WORDS..        box --help
  *
  * Bytes are written and read in hexadecimal, PINs and card numbers in decimal. The answer goes to standard output, one value a line, and
- * the exit status is 0; a refusal goes to standard error by number and in words, and the status is 1.
+ * the exit status is 0; a refusal goes to standard error by number and in words, and the status is 1. Words of a command line can be seen by
+ * others on the machine: for rehearsals and tests, not for the keys of real cards.
  */
 #include "box.h"
 
 #include <stdio.h>
-#include <stdlib.h>
 #include <string.h>
 
 /* The longest message: 127 data bytes and 8 more. */
-#define MESSAGE 135
+enum { MESSAGE = 135 };
 
 static const char help[] =
     "box: keys, codes and scripts of the Mir scheme\n"
@@ -50,8 +50,9 @@ static int refused(unsigned number) {
     return 1;
 }
 
-static int misused(const char *why, const char *word) {
-    fprintf(stderr, "box: %s: %s (box --help lists the commands)\n", why, word);
+/* The word itself is not repeated: it may be a key or a PIN. */
+static int misused(const char *why) {
+    fprintf(stderr, "box: %s (box --help lists the commands)\n", why);
     return 1;
 }
 
@@ -70,10 +71,11 @@ struct bytes {
 
 static int hexadecimal(const char *word, struct bytes *b) {
     size_t n = strlen(word), i;
-    if (n % 2 != 0 || n / 2 > sizeof b->at) return misused("not pairs of hexadecimal digits", word);
+    if (n % 2 != 0) return misused("not pairs of hexadecimal digits");
+    if (n / 2 > sizeof b->at) return misused("a word of more than 1,024 digits");
     for (i = 0; i < n / 2; i++) {
         int high = digit(word[2 * i]), low = digit(word[2 * i + 1]);
-        if (high < 0 || low < 0) return misused("not hexadecimal", word);
+        if (high < 0 || low < 0) return misused("not hexadecimal");
         b->at[i] = (uint8_t)(high * 16 + low);
     }
     b->length = n / 2;
@@ -83,20 +85,25 @@ static int hexadecimal(const char *word, struct bytes *b) {
 /* A word as one byte a decimal digit. */
 static int decimal(const char *word, struct bytes *b) {
     size_t n = strlen(word), i;
-    if (n > sizeof b->at) return misused("too long", word);
+    if (n > sizeof b->at) return misused("a word of more than 512 digits");
     for (i = 0; i < n; i++) {
-        if (word[i] < '0' || word[i] > '9') return misused("not decimal digits", word);
+        if (word[i] < '0' || word[i] > '9') return misused("not decimal digits");
         b->at[i] = (uint8_t)(word[i] - '0');
     }
     b->length = n;
     return 0;
 }
 
-/* A small decimal number; one that is none counts as 255, which no call takes. */
-static uint8_t number(const char *word) {
-    char *end;
-    unsigned long n = strtoul(word, &end, 10);
-    return *word == '\0' || *end != '\0' || n > 255 ? 255 : (uint8_t)n;
+/* A small decimal number, of up to three digits; a greater one counts as 255, which no call takes. */
+static int number(const char *word, uint8_t *n) {
+    struct bytes b;
+    unsigned value = 0;
+    size_t i;
+    if (decimal(word, &b)) return 1;
+    if (b.length == 0) return misused("not a number");
+    for (i = 0; i < b.length && value < 1000; i++) value = value * 10 + b.at[i];
+    *n = value > 255 ? 255 : (uint8_t)value;
+    return 0;
 }
 
 static void print(const char *name, const uint8_t *at, size_t length) {
@@ -116,8 +123,9 @@ static int counter_of(const char *word, uint16_t *counter) {
 
 static int card_key(char **word, int words, int packed) {
     struct bytes issuer, pan;
-    uint8_t key[32], sequence = words > 2 ? number(word[2]) : 0, r;
+    uint8_t key[32], sequence = 0, r;
     if (hexadecimal(word[0], &issuer) || decimal(word[1], &pan)) return 1;
+    if (words > 2 && number(word[2], &sequence)) return 1;
     r = packed ? box_card_key_packed(issuer.at, issuer.length, pan.at, pan.length, sequence, key, sizeof key)
                : box_card_key(issuer.at, issuer.length, pan.at, pan.length, sequence, key, sizeof key);
     if (r != 0) return refused(r);
@@ -160,9 +168,10 @@ static int script(const char *key, uint8_t instruction, uint8_t p2, uint8_t tag,
 }
 
 static int change_pin(char **word) {
-    struct bytes smc, pin;
+    struct bytes smi, smc, pin;
     uint8_t block[8], enciphered[8], r;
-    if (hexadecimal(word[1], &smc) || decimal(word[2], &pin)) return 1;
+    if (hexadecimal(word[0], &smi) || hexadecimal(word[1], &smc) || decimal(word[2], &pin)) return 1;
+    if (smi.length != 32 || smc.length != 32) return refused(1);
     r = box_write_pin(pin.at, pin.length, block, sizeof block);
     if (r == 0) r = box_encipher(smc.at, smc.length, block, sizeof block, enciphered, sizeof enciphered);
     if (r != 0) return refused(r);
@@ -192,9 +201,9 @@ static int arpc(char **word) {
 
 static int idn(char **word) {
     struct bytes key;
-    uint8_t answer[8], length = number(word[2]), r;
+    uint8_t answer[8], length, r;
     uint16_t counter;
-    if (hexadecimal(word[0], &key) || counter_of(word[1], &counter)) return 1;
+    if (hexadecimal(word[0], &key) || counter_of(word[1], &counter) || number(word[2], &length)) return 1;
     if (length > sizeof answer) return refused(1);
     r = box_idn(key.at, key.length, counter, answer, length);
     if (r != 0) return refused(r);
@@ -202,7 +211,7 @@ static int idn(char **word) {
     return 0;
 }
 
-int main(int argc, char **argv) {
+static int run(int argc, char **argv) {
     const char *command = argc > 1 ? argv[1] : "--help";
     char **word = argv + 2;
     int words = argc - 2;
@@ -219,5 +228,14 @@ int main(int argc, char **argv) {
     if (!strcmp(command, "open") && words == 3) return open_message(word);
     if (!strcmp(command, "arpc") && words == 3) return arpc(word);
     if (!strcmp(command, "idn") && words == 3) return idn(word);
-    return misused("no such command, or not its number of words", command);
+    return misused("no such command, or not its number of words");
+}
+
+int main(int argc, char **argv) {
+    int status = run(argc, argv);
+    if (fflush(stdout) != 0 || ferror(stdout)) {
+        fputs("box: the answer cannot be written\n", stderr);
+        return 1;
+    }
+    return status;
 }

@@ -7,12 +7,24 @@
  *    4  the shape of a script message is wrong
  *    8  the code of a script message differs
  *    9  the format of a PIN block is wrong
- *   12  a PIN to be written is not 4 to 12 digits
+ *   12  a PIN to be written is not 4 to 12 digits, or has a digit above 9
  * Where several would hold, the first in the order that the function's comment gives is returned.
  *
  * A byte string is a pointer and a length. The pointer may be null only where the length is 0. An output is lent by the caller, has exactly
  * the length stated, and does not overlap an input. A refusal leaves every lent byte as it was. No function keeps a pointer, allocates,
- * or reads or writes anything else, so all may be called from several threads at once.
+ * or reads or writes anything else, so all may be called from several threads at once. A number is checked as the type it is passed in: C
+ * makes 5 of the int 261 before a function with a uint8_t sees it.
+ *
+ * The script that changes a PIN, from the card's master keys MK_SMI and MK_SMC and the cryptogram of the transaction:
+ *    box_script_key (MK_SMI, cryptogram)            SK_SMI
+ *    box_script_key (MK_SMC, cryptogram)            SK_SMC
+ *    box_write_pin (digits)                         the PIN block
+ *    box_encipher (SK_SMC, PIN block)               the enciphered PIN block, 8 bytes
+ *    box_wrap (SK_SMI, header 84 24 00 02, tag 0x87, the 8 bytes)
+ * Blocking the card is header 84 1e 00 00 and tag 0x81 with no data, unblocking it 84 18 00 00. host/box.c does all of this.
+ *
+ * To compile and link on x86-64, after `make host` (elsewhere with x86_64-linux-gnu-gcc):
+ *    gcc -Iinclude program.c target/staticlib/libexports.a
  */
 #ifndef BOX_H
 #define BOX_H

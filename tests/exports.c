@@ -159,10 +159,10 @@ static void of_pin(void) {
 }
 
 static void of_cryptogram(void) {
-    static const uint8_t kinds[4] = {0x80, 0x40, 0x00, 0x01};
+    static const uint8_t kinds[3] = {0x80, 0x40, 0x00};
     struct lent a = lend(length_near(32)), d = lend(length_near(65)), o = lend(length_near(8)), c = lend(length_near(8)), u = lend(length_near(4));
-    uint8_t kind = kinds[any() % 4], r = box_cryptogram(a.at, a.length, kind, (uint16_t)any(), d.at, d.length, o.at, o.length);
-    expect(r, a.length == 32 && d.length == 65 && o.length == 8 && kind != 1 ? 0 : 1, "box_cryptogram");
+    uint8_t kind = any() % 2 ? kinds[any() % 3] : (uint8_t)any(), r = box_cryptogram(a.at, a.length, kind, (uint16_t)any(), d.at, d.length, o.at, o.length);
+    expect(r, a.length == 32 && d.length == 65 && o.length == 8 && (kind == 0x80 || kind == 0x40 || kind == 0x00) ? 0 : 1, "box_cryptogram");
     if (r == 0 && memcmp(o.at, o.at + 4, 4) != 0) fail("box_cryptogram: not written twice");
     back(o, 0, r == 0 ? o.length : 0, "box_cryptogram");
     back(d, 0, 0, "box_cryptogram");
@@ -188,16 +188,15 @@ static void of_message(void) {
         uint8_t *m = b.at + place;
         s = box_open(k.at, k.length, h.at, h.length, m, size, f.at, f.length);
         expect(s, f.length == 3 ? 0 : 1, "box_open");
-        if (s == 0 && (f.at[0] != tag || f.at[2] != d.length || (d.length > 0 && memcmp(m + f.at[1], d.at, d.length) != 0))) fail("box_open: found");
+        if (s == 0 && (f.at[0] != tag || f.at[1] != 2 || f.at[2] != d.length || (d.length > 0 && memcmp(m + f.at[1], d.at, d.length) != 0))) fail("box_open: found");
         /* one bit changed: the code differs, or the shape is wrong */
-        if (f.length == 3) {
-            struct lent g = lend(3);
+        {
+            struct lent g = lend(length_near(3));
             size_t at = any() % size;
+            int shape = at < 2 || at == size - 6 || at == size - 5;
             m[at] ^= (uint8_t)(1u << any() % 8);
-            r = box_open(k.at, k.length, h.at, h.length, m, size, g.at, g.length);
-            expect(r, r == 4 ? 4 : 8, "box_open of a changed message");
+            expect(box_open(k.at, k.length, h.at, h.length, m, size, g.at, g.length), g.length != 3 ? 1 : shape ? 4 : 8, "box_open of a changed message");
             back(g, 0, 0, "box_open");
-            r = 0;
         }
     } else {
         uint8_t t = box_open(k.at, k.length, h.at, h.length, b.at, b.length < 3 ? b.length : 3, f.at, f.length);
@@ -208,6 +207,102 @@ static void of_message(void) {
     back(k, 0, 0, "box_wrap");
     back(h, 0, 0, "box_wrap");
     back(d, 0, 0, "box_wrap");
+}
+
+/* Random bytes, and messages whose tag, length, end or code is off, to the opener. */
+static void of_opening(void) {
+    static const uint8_t firsts[6] = {0x81, 0x87, 0x81, 0x87, 0x80, 0x8e};
+    static const uint8_t lengths[5] = {0x00, 0x08, 0x7f, 0x80, 0xff};
+    struct lent k = lend(32), h = lend(4), m = lend(any() % 300), f = lend(length_near(3));
+    size_t L;
+    uint8_t wanted = 4;
+    if (m.length > 0 && any() % 4 != 0) m.at[0] = firsts[any() % 6];
+    if (m.length > 1 && any() % 4 != 0) m.at[1] = any() % 2 && m.length >= 8 ? (uint8_t)(m.length - 8) : lengths[any() % 5];
+    L = m.length > 1 ? m.at[1] : 0;
+    if (m.length > L + 3 && any() % 4 != 0) {
+        m.at[L + 2] = 0x8e;
+        m.at[L + 3] = any() % 4 == 0 ? 0x05 : 0x04;
+    }
+    keep(&m);
+    /* a good shape with a code of random bytes is 8 */
+    if (m.length == L + 8 && L <= 127 && (m.at[0] == 0x81 || m.at[0] == 0x87) && m.at[L + 2] == 0x8e && m.at[L + 3] == 0x04) wanted = 8;
+    if (f.length != 3) wanted = 1;
+    expect(box_open(k.at, k.length, h.at, h.length, m.at, m.length, f.at, f.length), wanted, "box_open of random bytes");
+    back(k, 0, 0, "box_open");
+    back(h, 0, 0, "box_open");
+    back(m, 0, 0, "box_open");
+    back(f, 0, 0, "box_open");
+}
+
+/* PIN blocks with one half-byte of any value: read exactly when the format is right, and written back to the same bytes. */
+static void of_pin_blocks(void) {
+    uint8_t half[16], block[8], found[13], again[8], n = (uint8_t)(any() % 16), wanted = 0, r;
+    int i;
+    half[0] = any() % 8 ? 2 : (uint8_t)(any() % 16);
+    half[1] = n;
+    for (i = 2; i < 16; i++) half[i] = i < 2 + n ? (uint8_t)(any() % 10) : 15;
+    if (any() % 2) half[2 + any() % 14] = (uint8_t)(any() % 16);
+    if (half[0] != 2 || n < 4 || n > 12) wanted = 9;
+    for (i = 2; i < 16; i++)
+        if (i < 2 + n ? half[i] > 9 : half[i] != 15) wanted = 9;
+    for (i = 0; i < 8; i++) block[i] = (uint8_t)(half[2 * i] * 16 + half[2 * i + 1]);
+    r = box_read_pin(block, sizeof block, found, sizeof found);
+    expect(r, wanted, "box_read_pin of a block");
+    if (r == 0) {
+        expect(box_write_pin(found + 1, found[0], again, sizeof again), 0, "box_write_pin of what was read");
+        if (memcmp(again, block, sizeof block) != 0) fail("box_write_pin of what was read");
+    }
+}
+
+/* Answers that are made of one another: an output that was left as it was would differ. */
+static void of_values(void) {
+    struct lent k = lend(32), b = lend(8), d = lend(65), c = lend(4);
+    uint8_t x[8], y[8], u[32], v[32], string[72] = {0}, code[4], seed8[8] = {0}, sequence = (uint8_t)(any() % 100);
+    uint8_t pan[16];
+    uint16_t counter = (uint16_t)any();
+    size_t i;
+    expect(box_encipher(k.at, 32, b.at, 8, x, 8), 0, "box_encipher");
+    expect(box_decipher(k.at, 32, x, 8, y, 8), 0, "box_decipher");
+    if (memcmp(y, b.at, 8) != 0) fail("box_decipher of box_encipher");
+    seed8[0] = (uint8_t)(counter >> 8);
+    seed8[1] = (uint8_t)counter;
+    expect(box_encipher(k.at, 32, seed8, 8, x, 8), 0, "box_encipher");
+    memset(y, 0, 8);
+    i = 2 + any() % 7;
+    expect(box_idn(k.at, 32, counter, y, i), 0, "box_idn");
+    if (memcmp(x, y, i) != 0) fail("box_idn: not the enciphered counter");
+    seed8[2] = 0xf0;
+    expect(box_session_key(k.at, 32, counter, u, 32), 0, "box_session_key");
+    expect(box_derive(k.at, 32, seed8, 8, v, 32), 0, "box_derive");
+    if (memcmp(u, v, 32) != 0) fail("box_session_key: not the derived one");
+    expect(box_script_key(k.at, 32, b.at, 8, u, 32), 0, "box_script_key");
+    expect(box_derive(k.at, 32, b.at, 8, v, 32), 0, "box_derive");
+    if (memcmp(u, v, 32) != 0) fail("box_script_key: not the derived one");
+    for (i = 0; i < 16; i++) pan[i] = (uint8_t)(any() % 10);
+    pan[15] = 1 + pan[15] % 9;
+    pan[14] = 1 + pan[14] % 9;
+    expect(box_card_key(k.at, 32, pan, 16, sequence, u, 32), 0, "box_card_key");
+    expect(box_card_key_packed(k.at, 32, pan, 16, sequence, v, 32), 0, "box_card_key_packed");
+    if (memcmp(u, v, 32) == 0) fail("the two readings of the card digits give one key");
+    memcpy(string, d.at, 65);
+    string[31] = (uint8_t)(counter >> 8);
+    string[32] = (uint8_t)counter;
+    string[36] = (uint8_t)(0xa0 + string[36] % 16);
+    string[65] = 0x80;
+    expect(box_code(k.at, 32, string, 72, code, 4), 0, "box_code");
+    expect(box_cryptogram(k.at, 32, 0x80, counter, d.at, 65, x, 8), 0, "box_cryptogram");
+    if (memcmp(x, code, 4) != 0 || memcmp(x + 4, code, 4) != 0) fail("box_cryptogram: not the code, twice");
+    memset(string, 0, sizeof string);
+    memcpy(string, x, 8);
+    memcpy(string + 8, c.at, 4);
+    string[16] = 0x80;
+    expect(box_code(k.at, 32, string, 72, code, 4), 0, "box_code");
+    expect(box_arpc(k.at, 32, x, 8, c.at, 4, y, 8), 0, "box_arpc");
+    if (memcmp(y, code, 4) != 0 || memcmp(y + 4, code, 4) != 0) fail("box_arpc: not the code, twice");
+    back(k, 0, 0, "values");
+    back(b, 0, 0, "values");
+    back(d, 0, 0, "values");
+    back(c, 0, 0, "values");
 }
 
 int main(void) {
@@ -224,6 +319,9 @@ int main(void) {
         of_pin();
         of_cryptogram();
         of_message();
+        of_opening();
+        of_pin_blocks();
+        of_values();
     }
     printf("%lu calls, %lu accepted, every number and every lent byte as it must be\n", calls, accepted);
     return 0;

@@ -3,3 +3,4 @@ pub mod AnswerLaws
 pub mod CounterLaws
 pub mod Inverse
 pub mod Examples
+pub mod FoundLaws

@@ -1,0 +1,361 @@
+-- One law for each way out of a call. Assumes nothing.
+use Prim.Native.Nat.{ℕ, _+_, _-_, _≤_, _<_}
+use native.Mathlib.Omega.{arith}
+use native.Mathlib.Nat.{add-sub-cancel-left}
+use mathlib.Core.Path.{_≡_, refl, sym, ap, ap₂, _∙_}
+use mathlib.Core.Bool.{Bool, true, false, not, _&&_, _||_, and-false, or-true}
+use mathlib.Core.List.{List}
+use lib.Dec.{eqb}
+use lib.ListN.{length, replicate, take, drop}
+use borrow.Author.Tests.{eq-eqb, ne-eqb, le-leb, lt-leb, not-true, not-false}
+use Rattle.octets.specs.Same.{same}
+use Rattle.cipher.specs.declared.BlockAnswer.{BlockAnswer}
+use Rattle.cipher.specs.Answers.{enciphered}
+use Rattle.derive.specs.declared.KeyAnswer.{KeyAnswer}
+use Rattle.keys.specs.Answers.{sessionKey, scriptKey, counterKey}
+use Rattle.pin.specs.declared.PinRead.{PinRead}
+use Rattle.pin.specs.declared.Counters.{Counters as CounterStruct}
+use Rattle.pin.specs.CounterBlock.{counterBlock, countersOf}
+use Rattle.pin.specs.Answers.{decipherPin, readBlock}
+use Rattle.cryptogram.specs.declared.Kind.{Kind}
+use Rattle.cryptogram.specs.declared.Answer.{Answer}
+use Rattle.cryptogram.specs.Answers.{cryptogramAnswer, arpcAnswer, kindNumber}
+use Rattle.message.specs.declared.Opened.{Opened}
+use Rattle.message.specs.declared.Opened.the-variants.{Data, Refused}
+use Rattle.message.specs.declared.command.Command.{Command}
+use Rattle.message.specs.declared.command.Command.the-variants.{SetPin, SetMark, ClearMark}
+use Rattle.message.specs.declared.command.Listed.{Listed}
+use Rattle.message.specs.declared.command.Listed.the-variants.{One, Unlisted}
+use Rattle.message.specs.Length.{lengthOf}
+use Rattle.message.specs.Shape.{tagOf, dataOf, shape}
+use Rattle.message.specs.Code.{codeFits}
+use Rattle.message.specs.Command.{commandOf}
+use Rattle.message.specs.Answers.{shaped}
+use Rattle.message.proofs.AnswerLaws.{Told, told-data, told-refused}
+use Rattle.card.specs.declared.Phase.{Phase}
+use Rattle.card.specs.declared.PendingMark.{PendingMark}
+use Rattle.card.specs.declared.PendingMark.the-variants.{Nothing}
+use Rattle.card.specs.declared.Transaction.{Transaction}
+use Rattle.card.specs.declared.Card.{Card}
+use Rattle.card.specs.declared.Reply.{Reply}
+use Rattle.card.specs.Record.{isOpen, none, sound, Kept, kept, withTransaction, withKept, withCounters, withSession, oneFailed, spoilt}
+use Rattle.card.specs.Keys.{sessionKeyOf, smiKey, smcKey, counterKeyOf}
+use Rattle.card.specs.Calls.{plain, step, Open, IssuerAnswer, Script, Close, Withdraw, Counters}
+use Rattle.card.specs.Calls.{opening, openAs, accept, kindFor, phaseFor, begun, grown, cryptogramFor, isArqc, arpcFor, answering}
+use Rattle.card.specs.Calls.{markAfter, laid, closing, withdrawing, counting, countersFor}
+use Rattle.card.specs.Calls.{takes, newPin, newMark, markFor, pinIn, forCommand, inOpen, judged, scriptAs, pend}
+use Rattle.card.specs.Inner.{lastCheck}
+use Rattle.card.specs.Personalise.{blank, personalised}
+
+-- what is pending laid over what is kept
+abbrev pinLaid : Card → Transaction → Card
+pinLaid r t = withKept r (record { pin = laid t (kept r) .pin; count = laid t (kept r) .count; mark = r .mark })
+
+pub laid-none : (r : Card) (t : Transaction) → t .count ≡ 0 → r ≡ pinLaid r t
+unfolding laid
+laid-none r t h = rw (eq-eqb _ _ h)
+
+pub laid-some : (r : Card) (t : Transaction) → (t .count ≡ 0 → ⊥) → withKept r (record { pin = t .pin; count = t .count; mark = r .mark }) ≡ pinLaid r t
+unfolding laid
+laid-some r t h = rw (ne-eqb _ _ h)
+
+pub lay-done : (r d : Card) (t : Transaction) (b : Bool) → d ≡ pinLaid r t → b ≡ markAfter (t .mark) (d .mark)
+    → withKept d (record { pin = d .pin; count = d .count; mark = b }) ≡ withKept r (laid t (kept r))
+unfolding laid
+lay-done r d t b e f =
+    ap₂ (λ (x : Card) (y : Bool). withKept x (record { pin = x .pin; count = x .count; mark = y })) e (f ∙ ap (λ (x : Card). markAfter (t .mark) (x .mark)) e)
+
+-- the keys, the ARPC and the counter block: by the answers of the crates below
+pub key-session : (r : Card) (x : KeyAnswer) → x ≡ sessionKey (r .ac) (r .atc) → x .bytes ≡ sessionKeyOf r
+unfolding sessionKeyOf
+key-session r x e = ap (λ (y : KeyAnswer). y .bytes) e
+
+pub key-smi : (r : Card) (x : KeyAnswer) → x ≡ scriptKey (r .smi) (r .transaction .cryptogram) → x .bytes ≡ smiKey r
+unfolding smiKey
+key-smi r x e = ap (λ (y : KeyAnswer). y .bytes) e
+
+pub key-smc : (r : Card) (x : KeyAnswer) → x ≡ scriptKey (r .smc) (r .transaction .cryptogram) → x .bytes ≡ smcKey r
+unfolding smcKey
+key-smc r x e = ap (λ (y : KeyAnswer). y .bytes) e
+
+module _ (r : Card) (k : List ℕ) (ek : k ≡ sessionKeyOf r) where
+  pub arpc-made : (csu : List ℕ) (x : Answer) → x ≡ arpcAnswer k (r .transaction .cryptogram) csu → x .bytes ≡ arpcFor r csu
+  unfolding arpcFor
+  arpc-made csu x e = ap (λ (y : Answer). y .bytes) (e ∙ ap (λ (y : List ℕ). arpcAnswer y (r .transaction .cryptogram) csu) ek)
+
+  pub counters-made : (a : KeyAnswer) (b : List ℕ) (x : BlockAnswer) → a ≡ counterKey k → b ≡ counterBlock (r .counters) → x ≡ enciphered (a .bytes) b
+      → x .bytes ≡ countersFor r
+  unfolding countersFor counterKeyOf
+  counters-made a b x ea eb ex =
+      ap (λ (y : BlockAnswer). y .bytes) (ex ∙ ap₂ (λ (y : KeyAnswer) (z : List ℕ). enciphered (y .bytes) z) (ea ∙ ap counterKey ek) eb)
+
+-- an opened transaction
+pub begun-by : (b : Bool) (g : List ℕ) (p : Phase) → p ≡ phaseFor b
+    → record { phase = p; cryptogram = g; pin = replicate 12 0; count = 0; mark = Nothing; spoilt = false } ≡ begun b g
+begun-by b g p e = ap (λ (x : Phase). record { phase = x; cryptogram = g; pin = replicate 12 0; count = 0; mark = Nothing; spoilt = false }) e
+
+pub opened-by : (r : Card) (d k : List ℕ) (kind : Kind) (x : Answer) (t : Transaction) (n : ℕ) → k ≡ sessionKeyOf (grown r) → kind ≡ kindFor (r .mark)
+    → x ≡ cryptogramAnswer k kind (r .atc + 1) d → t ≡ begun (r .mark) (x .bytes) → n ≡ kindNumber kind
+    → record { card = withTransaction (grown r) t; code = 0; kind = n; bytes = x .bytes } ≡ openAs r d accept
+unfolding cryptogramFor
+opened-by r d k kind x t n ek ej ex et en =
+    let w : x .bytes ≡ cryptogramAnswer (sessionKeyOf (grown r)) (kindFor (r .mark)) (r .atc + 1) d .bytes =
+    ap (λ (y : Answer). y .bytes) (ex ∙ ap₂ (λ (y : List ℕ) (z : Kind). cryptogramAnswer y z (r .atc + 1) d) ek ej)
+    in
+    ap₂ (λ (y : Transaction) (z : ℕ). record { card = withTransaction (grown r) y; code = 0; kind = z; bytes = x .bytes }) et (en ∙ ap kindNumber ej)
+    ∙ ap (λ (y : List ℕ). record { card = withTransaction (grown r) (begun (r .mark) y); code = 0; kind = kindNumber (kindFor (r .mark)); bytes = y }) w
+
+-- the refusals of an unsound record, and of a sound one
+module _ (r : Card) (a : Reply) (s : Bool) (e : s ≡ sound r) where
+  module _ (h : not s ≡ true) (z : a ≡ plain r 1) where
+    pub open-unsound : (d : List ℕ) → a ≡ step r (Open d)
+    unfolding opening
+    open-unsound d = z ∙ rw (sym e ∙ not-true s h)
+
+    pub answer-unsound : (x u : List ℕ) → a ≡ step r (IssuerAnswer x u)
+    unfolding answering
+    answer-unsound x u = z ∙ rw (sym e ∙ not-true s h)
+
+    pub script-unsound : (x m : List ℕ) → a ≡ step r (Script x m)
+    unfolding judged
+    script-unsound x m = z ∙ rw (sym e ∙ not-true s h)
+
+    pub close-unsound : a ≡ step r Close
+    unfolding closing
+    close-unsound = z ∙ rw (sym e ∙ not-true s h)
+
+    pub withdraw-unsound : a ≡ step r Withdraw
+    unfolding withdrawing
+    withdraw-unsound = z ∙ rw (sym e ∙ not-true s h)
+
+    pub counters-unsound : a ≡ step r Counters
+    unfolding counting
+    counters-unsound = z ∙ rw (sym e ∙ not-true s h)
+
+  module _ (h : not s ≡ false) where
+    fine : sound r ≡ true
+    fine = sym e ∙ not-false s h
+
+    pub withdraw-done : (t : Transaction) → t ≡ none → a ≡ plain (withTransaction r t) 0 → a ≡ step r Withdraw
+    unfolding withdrawing
+    withdraw-done t n z = z ∙ rw (fine, n)
+
+    module _ (o : Bool) (eo : o ≡ isOpen (r .transaction .phase)) where
+      pub open-busy : (d : List ℕ) → o ≡ true → a ≡ plain r 6 → a ≡ step r (Open d)
+      unfolding opening
+      open-busy d b z = z ∙ rw (fine, sym eo ∙ b)
+
+      module _ (d : List ℕ) (b : o ≡ false) where
+        pub open-input : (length d ≡ 65 → ⊥) → a ≡ plain r 1 → a ≡ step r (Open d)
+        unfolding opening
+        open-input l z = z ∙ rw (fine, sym eo ∙ b, ne-eqb _ _ l)
+
+        module _ (l : length d ≡ 65) where
+          pub open-atc : r .atc ≡ 65535 → a ≡ plain r 7 → a ≡ step r (Open d)
+          unfolding opening
+          open-atc x z = z ∙ rw (fine, sym eo ∙ b, eq-eqb _ _ l, eq-eqb _ _ x)
+
+          module _ (x : r .atc ≡ 65535 → ⊥) where
+            pub open-session : r .counters .session ≡ 65535 → a ≡ plain r 7 → a ≡ step r (Open d)
+            unfolding opening
+            open-session y z = z ∙ rw (fine, sym eo ∙ b, eq-eqb _ _ l, ne-eqb _ _ x, eq-eqb _ _ y)
+
+            pub open-done : (r .counters .session ≡ 65535 → ⊥) → a ≡ openAs r d accept → a ≡ step r (Open d)
+            unfolding opening
+            open-done y z = z ∙ rw (fine, sym eo ∙ b, eq-eqb _ _ l, ne-eqb _ _ x, ne-eqb _ _ y)
+
+      module _ (b : not o ≡ true) (z : a ≡ plain r 6) where
+        shut : isOpen (r .transaction .phase) ≡ false
+        shut = sym eo ∙ not-true o b
+
+        pub script-idle : (x m : List ℕ) → a ≡ step r (Script x m)
+        unfolding judged
+        script-idle x m = z ∙ rw (fine, shut)
+
+        pub close-idle : a ≡ step r Close
+        unfolding closing
+        close-idle = z ∙ rw (fine, shut)
+
+        pub counters-idle : a ≡ step r Counters
+        unfolding counting
+        counters-idle = z ∙ rw (fine, shut)
+
+      module _ (b : not o ≡ false) where
+        ajar : isOpen (r .transaction .phase) ≡ true
+        ajar = sym eo ∙ not-false o b
+
+        pub script-on : (x m : List ℕ) → a ≡ scriptAs r (inOpen r x m) → a ≡ step r (Script x m)
+        unfolding judged
+        script-on x m z = z ∙ rw (fine, ajar)
+
+        pub close-spoilt : (t : Transaction) → r .transaction .spoilt ≡ true → t ≡ none → a ≡ plain (withTransaction r t) 10 → a ≡ step r Close
+        unfolding closing
+        close-spoilt t p n z = z ∙ rw (fine, ajar, p, n)
+
+        pub close-done : (t : Transaction) (d : Card) → r .transaction .spoilt ≡ false → d ≡ withKept r (laid (r .transaction) (kept r)) → t ≡ none
+            → a ≡ plain (withTransaction d t) 0 → a ≡ step r Close
+        unfolding closing
+        close-done t d p l n z = z ∙ ap₂ (λ (x : Card) (y : Transaction). plain (withTransaction x y) 0) l n ∙ rw (fine, ajar, p)
+
+    module _ (x u : List ℕ) (o : Bool) (eo : o ≡ isArqc (r .transaction .phase)) where
+      pub answer-phase : not o ≡ true → a ≡ plain r 6 → a ≡ step r (IssuerAnswer x u)
+      unfolding answering
+      answer-phase b z = z ∙ rw (fine, sym eo ∙ not-true o b)
+
+      module _ (b : not o ≡ false) where
+        pub answer-arpc : (length x ≡ 8 → ⊥) → a ≡ plain r 1 → a ≡ step r (IssuerAnswer x u)
+        unfolding answering
+        answer-arpc l z = z ∙ rw (fine, sym eo ∙ not-false o b, ne-eqb _ _ l)
+
+        module _ (l : length x ≡ 8) where
+          pub answer-csu : (length u ≡ 4 → ⊥) → a ≡ plain r 1 → a ≡ step r (IssuerAnswer x u)
+          unfolding answering
+          answer-csu n z = z ∙ rw (fine, sym eo ∙ not-false o b, eq-eqb _ _ l, ne-eqb _ _ n)
+
+          module _ (n : length u ≡ 4) (y : List ℕ) (ey : y ≡ arpcFor r u) (v : Bool) (ev : v ≡ same x y) where
+            compared : v ≡ same x (arpcFor r u)
+            compared = ev ∙ ap (same x) ey
+
+            pub answer-differs : not v ≡ true → a ≡ plain r 11 → a ≡ step r (IssuerAnswer x u)
+            unfolding answering
+            answer-differs w z = z ∙ rw (fine, sym eo ∙ not-false o b, eq-eqb _ _ l, eq-eqb _ _ n, sym compared ∙ not-true v w)
+
+            pub answer-done : not v ≡ false → a ≡ plain (withCounters r (r .atc) (withSession (r .counters) 0)) 0 → a ≡ step r (IssuerAnswer x u)
+            unfolding answering
+            answer-done w z = z ∙ rw (fine, sym eo ∙ not-false o b, eq-eqb _ _ l, eq-eqb _ _ n, sym compared ∙ not-false v w)
+
+pub counters-done : (r : Card) (s o : Bool) (g : List ℕ) → s ≡ sound r → not s ≡ false → o ≡ isOpen (r .transaction .phase) → not o ≡ false → g ≡ countersFor r
+    → record { card = r; code = 0; kind = 0; bytes = g } ≡ step r Counters
+unfolding counting
+counters-done r s o g e h eo b z = rw (sym e ∙ not-false s h, sym eo ∙ not-false o b, z)
+
+-- a script: what an accepted command makes pending, or 9
+pub mark-taken : (r : Card) (b : Bool) (m : PendingMark) (a : Reply) → m ≡ markFor b
+    → a ≡ plain (withTransaction r (record { phase = r .transaction .phase; cryptogram = r .transaction .cryptogram; pin = r .transaction .pin; count = r .transaction .count; mark = m; spoilt = r .transaction .spoilt })) 0
+    → a ≡ scriptAs r (takes (newMark b))
+mark-taken r b m a e z = z ∙ rw e
+
+module _ (r : Card) (d k : List ℕ) (x : PinRead) (a : Reply) (ek : k ≡ smcKey r) (ex : x ≡ decipherPin k d) where
+  its : x ≡ decipherPin (smcKey r) d
+  its = ex ∙ ap (λ (y : List ℕ). decipherPin y d) ek
+
+  pub pin-no : (x .code ≡ 0 → ⊥) → a ≡ plain (withTransaction r (spoilt (r .transaction))) 9 → a ≡ scriptAs r (lastCheck SetPin (decipherPin (smcKey r) d))
+  pin-no n z = z ∙ rw (ap (λ (y : PinRead). eqb (y .code) 0) (sym its) ∙ ne-eqb _ _ n)
+
+  pub pin-yes : x .code ≡ 0 → a ≡ plain (withTransaction r (pend (r .transaction) (newPin (x .pin) (x .count)))) 0
+      → a ≡ scriptAs r (lastCheck SetPin (decipherPin (smcKey r) d))
+  pin-yes n z =
+      z ∙ ap (λ (y : PinRead). plain (withTransaction r (pend (r .transaction) (newPin (y .pin) (y .count)))) 0) its
+      ∙ rw (ap (λ (y : PinRead). eqb (y .code) 0) (sym its) ∙ eq-eqb _ _ n)
+
+module _ (r : Card) (c : Command) (x : PinRead) (a : Reply) where
+  pub taken-pin : c ≡ SetPin → a ≡ scriptAs r (lastCheck SetPin x) → a ≡ scriptAs r (lastCheck c x)
+  taken-pin e z = z ∙ rw e
+
+  pub taken-set : c ≡ SetMark → a ≡ scriptAs r (takes (newMark true)) → a ≡ scriptAs r (lastCheck c x)
+  taken-set e z = z ∙ rw e
+
+  pub taken-clear : c ≡ ClearMark → a ≡ scriptAs r (takes (newMark false)) → a ≡ scriptAs r (lastCheck c x)
+  taken-clear e z = z ∙ rw e
+
+-- the checks of a listed command
+module _ (r : Card) (c : Command) (h m : List ℕ) (a : Reply) where
+  pub obey-full : r .counters .failures ≡ 65535 → a ≡ plain (withTransaction r (spoilt (r .transaction))) 7 → a ≡ scriptAs r (forCommand r h m (One c))
+  obey-full f z = z ∙ rw (eq-eqb _ _ f)
+
+  module _ (f : r .counters .failures ≡ 65535 → ⊥) (k : List ℕ) (ek : k ≡ smiKey r) (v : Bool) (ev : v ≡ codeFits k h m) where
+    fits : v ≡ codeFits (smiKey r) h m
+    fits = ev ∙ ap (λ (x : List ℕ). codeFits x h m) ek
+
+    pub obey-code : not v ≡ true → a ≡ plain (withTransaction (withCounters r (r .atc) (oneFailed (r .counters))) (spoilt (r .transaction))) 8
+        → a ≡ scriptAs r (forCommand r h m (One c))
+    obey-code w z = z ∙ rw (ne-eqb _ _ f, sym fits ∙ not-true v w)
+
+    -- the key uncounted: the record as before
+    uncounted : (n : ℕ) → n + 1 - 1 ≡ n
+    uncounted n = omega arith
+
+    pub obey-taken : not v ≡ false → (d : List ℕ) → d ≡ dataOf m → (s : Card)
+        → s ≡ withCounters r (r .atc) (record { session = r .counters .session; failures = r .counters .failures + 1 - 1; decipherments = r .counters .decipherments; authentications = r .counters .authentications })
+        → a ≡ scriptAs s (lastCheck c (decipherPin (smcKey s) d)) → a ≡ scriptAs r (forCommand r h m (One c))
+    unfolding pinIn
+    obey-taken w d ed s es z =
+        let e : s ≡ r = es ∙ rw (uncounted (r .counters .failures)) in
+        z ∙ ap₂ (λ (x : Card) (y : List ℕ). scriptAs x (lastCheck c (decipherPin (smcKey x) y))) e ed
+        ∙ rw (ne-eqb _ _ f, sym fits ∙ not-false v w)
+
+-- the checks in an open transaction
+pub judge-header : (r : Card) (h m : List ℕ) (a : Reply) → (length h ≡ 4 → ⊥) → a ≡ plain (withTransaction r (spoilt (r .transaction))) 1
+    → a ≡ scriptAs r (inOpen r h m)
+unfolding inOpen
+judge-header r h m a l z = z ∙ rw (ne-eqb _ _ l)
+
+module _ (r : Card) (h m : List ℕ) (a : Reply) (l : length h ≡ 4) (o : Opened) (eo : o ≡ shaped m) where
+  pub judge-shape : (n : ℕ) → o ≡ Refused n → a ≡ plain (withTransaction r (spoilt (r .transaction))) 4 → a ≡ scriptAs r (inOpen r h m)
+  unfolding inOpen
+  judge-shape n f z = z ∙ rw (eq-eqb _ _ l, told-refused m o n eo f)
+
+  module _ (t p n : ℕ) (f : o ≡ Data t p n) (q : Listed) (eq : q ≡ commandOf h t n) where
+    told : Told m t p n
+    told = told-data m o t p n eo f
+
+    its-command : q ≡ commandOf h (tagOf m) (lengthOf m)
+    its-command = eq ∙ ap₂ (λ (x y : ℕ). commandOf h x y) (told .the-tag) (told .the-length)
+
+    pub judge-unlisted : q ≡ Unlisted → a ≡ plain (withTransaction r (spoilt (r .transaction))) 5 → a ≡ scriptAs r (inOpen r h m)
+    unfolding inOpen
+    judge-unlisted g z = z ∙ rw (eq-eqb _ _ l, told .good, sym its-command ∙ g)
+
+    pub judge-listed : (c : Command) → q ≡ One c → a ≡ scriptAs r (forCommand r h m (One c)) → a ≡ scriptAs r (inOpen r h m)
+    unfolding inOpen
+    judge-listed c g z = z ∙ rw (eq-eqb _ _ l, told .good, sym its-command ∙ g)
+
+-- the data of a message of good shape
+pub judge-end : (m : List ℕ) (o : Opened) (t p n : ℕ) → o ≡ shaped m → o ≡ Data t p n → p + n ≤ length m
+judge-end m o t p n e f = let w = told-data m o t p n e f in let s = w .the-size in omega arith
+
+pub judge-data : (m : List ℕ) (o : Opened) (t p n : ℕ) → o ≡ shaped m → o ≡ Data t p n → take ((p + n) - p) (drop p m) ≡ dataOf m
+unfolding dataOf
+judge-data m o t p n e f =
+    let w = told-data m o t p n e f in
+    ap₂ {C = List ℕ} (λ x y. take x (drop y m)) (add-sub-cancel-left p n ∙ w .the-length) (w .the-place)
+
+-- personalisation
+abbrev blankWith : Transaction → Card
+blankWith t =
+    record {
+      ac = replicate 32 0;
+      smi = replicate 32 0;
+      smc = replicate 32 0;
+      pin = replicate 12 0;
+      count = 0;
+      mark = false;
+      atc = 0;
+      counters = record { session = 0; failures = 0; decipherments = 0; authentications = 0 };
+      transaction = t;
+    }
+
+pub blank-by : (t : Transaction) → t ≡ none → blankWith t ≡ blank
+blank-by t e = ap blankWith e
+
+module _ (ac smi smc : List ℕ) (atc : ℕ) (counters : List ℕ) (mark : ℕ) (block : List ℕ) (a : Reply) where
+  abbrev with : PinRead → CounterStruct → Transaction → Card
+  with y n t = record { ac = ac; smi = smi; smc = smc; pin = y .pin; count = y .count; mark = eqb mark 1; atc = atc; counters = n; transaction = t }
+
+  pub fresh-mark : (b : Card) → 1 < mark → b ≡ blank → a ≡ plain b 1 → a ≡ personalised ac smi smc atc counters mark block
+  unfolding personalised
+  fresh-mark b h e z = z ∙ ap (λ (x : Card). plain x 1) e ∙ rw (lt-leb mark 1 h)
+
+  module _ (h : mark ≤ 1) (x : PinRead) (ex : x ≡ readBlock block) where
+    pub fresh-format : (b : Card) → (x .code ≡ 0 → ⊥) → b ≡ blank → a ≡ plain b 9 → a ≡ personalised ac smi smc atc counters mark block
+    unfolding personalised
+    fresh-format b n e z = z ∙ ap (λ (y : Card). plain y 9) e ∙ rw (le-leb mark 1 h, ap (λ (y : PinRead). eqb (y .code) 0) (sym ex) ∙ ne-eqb _ _ n)
+
+    pub fresh-done : (n : CounterStruct) (t : Transaction) → x .code ≡ 0 → n ≡ countersOf counters → t ≡ none
+        → a ≡ plain (with x n t) 0 → a ≡ personalised ac smi smc atc counters mark block
+    unfolding personalised
+    fresh-done n t c en et z =
+        z
+        ∙ ap₂ (λ (u : CounterStruct) (v : Transaction). plain (with x u v) 0) en et
+        ∙ ap (λ (y : PinRead). plain (with y (countersOf counters) none) 0) ex
+        ∙ rw (le-leb mark 1 h, ap (λ (y : PinRead). eqb (y .code) 0) (sym ex) ∙ eq-eqb _ _ c)

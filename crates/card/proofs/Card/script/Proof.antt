@@ -1,0 +1,26 @@
+use Rattle.card.proofs.CallLaws.{script-unsound, script-idle, script-on}
+use borrow.Author.Needs.{needs}
+use Rattle.card.proofs.Card.script.Statement.{statement}
+use Rattle.card.proofs.Card.script.Tie as tie
+
+returns : tie.Need-returns
+returns c = search script-unsound
+
+returns-2 : tie.Need-returns-2
+returns-2 c = search script-idle
+
+returns-3 : tie.Need-returns-3
+returns-3 c = search script-on
+
+pub script-spec : {M : Type 1} → statement M
+script-spec =
+    tie.close
+    (tie.spec
+    (λ c κs. search needs)
+    (λ c κs. search needs)
+    returns
+    (λ c κs. search needs)
+    (λ c κs. search needs)
+    returns-2
+    (λ c κs. search needs)
+    returns-3)

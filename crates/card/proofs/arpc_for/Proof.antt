@@ -1,0 +1,17 @@
+use Rattle.card.proofs.CallLaws.{arpc-made}
+use borrow.Author.Needs.{needs}
+use Rattle.card.proofs.arpc_for.Statement.{statement}
+use Rattle.card.proofs.arpc_for.Tie as tie
+
+returns : tie.Need-returns
+returns c = search arpc-made
+
+pub arpc-for-spec : {M : Type 1} → statement M
+arpc-for-spec =
+    tie.close
+    (tie.spec
+    (λ c κs. search needs)
+    (λ c. search needs)
+    (λ c. search needs)
+    (λ c κs. search needs)
+    returns)

@@ -1,0 +1,21 @@
+use Rattle.card.proofs.CallLaws.{opened-by}
+use borrow.Author.Needs.{needs}
+use Rattle.card.proofs.opened.Statement.{statement}
+use Rattle.card.proofs.opened.Tie as tie
+
+returns : tie.Need-returns
+returns c = search opened-by
+
+pub opened-spec : {M : Type 1} → statement M
+opened-spec =
+    tie.close
+    (tie.spec
+    (λ c. search needs)
+    (λ c. search needs)
+    (λ c κs. search needs)
+    (λ c κs. search needs)
+    (λ c. search needs)
+    (λ c κs. search needs)
+    (λ c κs. search needs)
+    (λ c κs. search needs)
+    returns)

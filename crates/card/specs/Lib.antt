@@ -1,0 +1,5 @@
+pub mod Record
+pub mod Keys
+pub mod Calls
+pub mod Inner
+pub mod Personalise

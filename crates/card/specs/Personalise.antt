@@ -1,0 +1,51 @@
+-- Personalisation (01, The clerk's trace, frame 00; demand 3, "any freshly personalised record"). Assumes nothing.
+use Prim.Native.Nat.{ℕ}
+use mathlib.Core.Bool.{false, not}
+use mathlib.Core.List.{List, [], _∷_}
+use lib.Dec.{leb, eqb}
+use lib.ListN.{replicate}
+use Rattle.pin.specs.CounterBlock.{countersOf}
+use Rattle.pin.specs.Answers.{readBlock}
+use Rattle.card.specs.declared.Card.{Card}
+use Rattle.card.specs.declared.Reply.{Reply}
+use Rattle.card.specs.Record.{none}
+use Rattle.card.specs.Calls.{Refusal, input, pinFormat, number, strikes, first, plain}
+
+-- no record: it has no PIN, so every call refuses it
+abbrev pub blank : Card
+blank =
+    record {
+      ac = replicate 32 0;
+      smi = replicate 32 0;
+      smc = replicate 32 0;
+      pin = replicate 12 0;
+      count = 0;
+      mark = false;
+      atc = 0;
+      counters = record { session = 0; failures = 0; decipherments = 0; authentications = 0 };
+      transaction = none;
+    }
+
+-- keys AC, SMI, SMC, transaction counter, counter block, mark 00 or 01, clear PIN block
+abbrev pub fresh : List ℕ → List ℕ → List ℕ → ℕ → List ℕ → ℕ → List ℕ → Card
+fresh ac smi smc atc counters mark block =
+    record {
+      ac = ac;
+      smi = smi;
+      smc = smc;
+      pin = readBlock block .pin;
+      count = readBlock block .count;
+      mark = eqb mark 1;
+      atc = atc;
+      counters = countersOf counters;
+      transaction = none;
+    }
+
+-- "refusals 1, then 9": a mark above 01, the format of the PIN block; the other lengths are those of the types
+unfoldable pub personalised : List ℕ → List ℕ → List ℕ → ℕ → List ℕ → ℕ → List ℕ → Reply
+personalised ac smi smc atc counters mark block =
+    first
+    (strikes (not (leb mark 1)) (plain blank (number input))
+    ∷ strikes (not (eqb (readBlock block .code) 0)) (plain blank (number pinFormat))
+    ∷ [])
+    (plain (fresh ac smi smc atc counters mark block) 0)

@@ -1,0 +1,595 @@
+// The soft card: its record, and the calls, each of which takes the record and hands back the record after it.
+use cryptogram::Kind;
+use message::Command;
+use message::Listed;
+use message::Opened;
+use pin::Counters;
+ghost use mathlib.Core.Path.{_≡_};
+ghost use mathlib.Core.List.{List};
+ghost use Prim.Native.Nat.{_<_};
+ghost use Rattle.pin.specs.Answers.{decipherPin};
+ghost use Rattle.message.specs.Shape.{dataOf};
+ghost use Rattle.message.specs.declared.command.Command.the-variants.{SetPin};
+ghost use Rattle.message.specs.declared.command.Listed.the-variants.{One};
+ghost use Rattle.card.specs.Record.{isOpen, isUnmarked, none, pendingFits, restFits, sound, Kept, kept, withTransaction, withKept, spoilt as spoiltOf};
+ghost use Rattle.card.specs.Keys.{sessionKeyOf, smiKey, smcKey};
+ghost use Rattle.card.specs.Calls.{plain, kindFor, phaseFor, isArqc, arpcFor, countersFor, begun as begunAs, openAs, accept, newMark, takes, scriptAs, forCommand, inOpen, markFor, markAfter, laid, step, Open, IssuerAnswer, Script, Close, Withdraw, Counters as CountersCall};
+ghost use Rattle.card.specs.Inner.{lastCheck};
+ghost use Rattle.card.specs.Personalise.{blank as blankAs, personalised};
+
+// Whether a transaction is open, and of what kind.
+pub enum Phase {
+    Idle,
+    Arqc,
+    Aac,
+}
+
+// What is pending for the block mark.
+pub enum PendingMark {
+    Nothing,
+    Set,
+    Clear,
+}
+
+// A transaction: all zero where none is open.
+pub struct Transaction {
+    pub phase: Phase,
+    pub cryptogram: [u8; 8],
+    // the pending PIN and its count, zero where none is pending
+    pub pin: [u8; 12],
+    pub count: u8,
+    pub mark: PendingMark,
+    pub spoilt: bool,
+}
+
+// The record.
+pub struct Card {
+    // the master keys
+    pub ac: [u8; 32],
+    pub smi: [u8; 32],
+    pub smc: [u8; 32],
+    // the kept PIN and its count, and the block mark
+    pub pin: [u8; 12],
+    pub count: u8,
+    pub mark: bool,
+    // the transaction counter
+    pub atc: u16,
+    pub counters: Counters,
+    pub transaction: Transaction,
+}
+
+// What a call hands back: the record after it, its number, and for an accepted Open the kind's number (80 or 00) and the cryptogram, for
+// accepted Counters the enciphered block; zeros otherwise.
+pub struct Reply {
+    pub card: Card,
+    pub code: u8,
+    pub kind: u8,
+    pub bytes: [u8; 8],
+}
+
+// Whether a transaction is open.
+fn is_open(phase: Phase) -> bool
+    ensures { λ r. ⌜ r ≡ isOpen phase ⌝ }
+{
+    match phase {
+        Phase::Idle => false,
+        Phase::Arqc => true,
+        Phase::Aac => true,
+    }
+}
+
+// Whether nothing is pending for the mark.
+fn is_unmarked(mark: PendingMark) -> bool
+    ensures { λ r. ⌜ r ≡ isUnmarked mark ⌝ }
+{
+    match mark {
+        PendingMark::Nothing => true,
+        PendingMark::Set => false,
+        PendingMark::Clear => false,
+    }
+}
+
+// A transaction that is not open.
+fn no_transaction() -> Transaction
+    ensures { λ r. ⌜ r ≡ none ⌝ }
+{
+    Transaction {
+        phase: Phase::Idle,
+        cryptogram: [0; 8],
+        pin: [0; 12],
+        count: 0,
+        mark: PendingMark::Nothing,
+        spoilt: false,
+    }
+}
+
+// Whether a pending PIN is a PIN of n digits, or all zero where there are none.
+fn pending_fits(p: [u8; 12], n: u8) -> bool
+    ensures { λ r. ⌜ r ≡ pendingFits n p ⌝ }
+{
+    if n == 0 {
+        return octets::same(&p, &[0; 12]);
+    }
+    pin::pin_fits(&p, n as usize, 0)
+}
+
+// Whether the fields of a transaction are all zero where none is open; its pending PIN is looked at elsewhere.
+fn rest_fits(t: Transaction) -> bool
+    ensures { λ r. ⌜ r ≡ restFits t ⌝ }
+{
+    let phase = t.phase;
+    if is_open(phase) {
+        return true;
+    }
+    let g = t.cryptogram;
+    if !octets::same(&g, &[0; 8]) {
+        return false;
+    }
+    if t.count != 0 {
+        return false;
+    }
+    let mark = t.mark;
+    if !is_unmarked(mark) {
+        return false;
+    }
+    !t.spoilt
+}
+
+// Whether a record is sound.
+fn is_sound(c: Card) -> bool
+    ensures { λ r. ⌜ r ≡ sound c ⌝ }
+{
+    let p = c.pin;
+    if !pin::pin_fits(&p, c.count as usize, 0) {
+        return false;
+    }
+    let t = c.transaction;
+    let q = t.pin;
+    if !pending_fits(q, t.count) {
+        return false;
+    }
+    rest_fits(t)
+}
+
+// A refusal, or an acceptance without bytes.
+fn plainly(card: Card, code: u8) -> Reply
+    ensures { λ r. ⌜ r ≡ plain card code ⌝ }
+{
+    Reply {
+        card,
+        code,
+        kind: 0,
+        bytes: [0; 8],
+    }
+}
+
+// A refusal of a script, which spoils the transaction.
+fn spoiled(mut c: Card, code: u8) -> Reply
+    ensures { λ r. ⌜ r ≡ plain (withTransaction c (spoiltOf (c .transaction))) code ⌝ }
+{
+    let mut t = c.transaction;
+    t.spoilt = true;
+    c.transaction = t;
+    plainly(c, code)
+}
+
+// The kind of the cryptogram that a card answers with, by its block mark.
+fn kind_for(mark: bool) -> Kind
+    ensures { λ r. ⌜ r ≡ kindFor mark ⌝ }
+{
+    if mark { Kind::Aac } else { Kind::Arqc }
+}
+
+// The phase of the transaction that it opens.
+fn phase_for(mark: bool) -> Phase
+    ensures { λ r. ⌜ r ≡ phaseFor mark ⌝ }
+{
+    if mark { Phase::Aac } else { Phase::Arqc }
+}
+
+// A transaction just opened.
+fn begun(mark: bool, cryptogram: [u8; 8]) -> Transaction
+    ensures { λ r. ⌜ r ≡ begunAs mark cryptogram ⌝ }
+{
+    Transaction {
+        phase: phase_for(mark),
+        cryptogram,
+        pin: [0; 12],
+        count: 0,
+        mark: PendingMark::Nothing,
+        spoilt: false,
+    }
+}
+
+// The session keys of the transaction: for cryptograms, for codes, for secrecy.
+fn session_key(c: Card) -> [u8; 32]
+    ensures { λ r. ⌜ r ≡ sessionKeyOf c ⌝ }
+{
+    let master = c.ac;
+    let r = keys::session_key(&master, c.atc);
+    r.bytes
+}
+
+fn smi_key(c: Card) -> [u8; 32]
+    ensures { λ r. ⌜ r ≡ smiKey c ⌝ }
+{
+    let master = c.smi;
+    let t = c.transaction;
+    let g = t.cryptogram;
+    let r = keys::script_key(&master, &g);
+    r.bytes
+}
+
+fn smc_key(c: Card) -> [u8; 32]
+    ensures { λ r. ⌜ r ≡ smcKey c ⌝ }
+{
+    let master = c.smc;
+    let t = c.transaction;
+    let g = t.cryptogram;
+    let r = keys::script_key(&master, &g);
+    r.bytes
+}
+
+// The ARPC that the card expects.
+fn arpc_for(c: Card, csu: &[u8]) -> [u8; 8]
+    ensures { λ r. ⌜ r ≡ arpcFor c (now (csu .entry)) ⌝ }
+{
+    let key = session_key(c);
+    let t = c.transaction;
+    let g = t.cryptogram;
+    let r = cryptogram::arpc(&key, &g, csu);
+    r.bytes
+}
+
+// The enciphered counter block.
+fn counters_for(c: Card) -> [u8; 8]
+    ensures { λ r. ⌜ r ≡ countersFor c ⌝ }
+{
+    let session = session_key(c);
+    let k = keys::counter_key(&session);
+    let key = k.bytes;
+    let n = c.counters;
+    let block = pin::write_counters(n);
+    let r = cipher::encipher(&key, &block);
+    r.bytes
+}
+
+// What is pending laid over what is kept: the PIN, then the mark.
+fn laid_pin(mut c: Card, t: Transaction) -> Card
+    ensures { λ r. ⌜ r ≡ withKept c (record { pin = laid t (kept c) .pin; count = laid t (kept c) .count; mark = c .mark }) ⌝ }
+{
+    if t.count == 0 {
+        return c;
+    }
+    let p = t.pin;
+    c.pin = p;
+    c.count = t.count;
+    c
+}
+
+fn mark_after(mark: PendingMark, b: bool) -> bool
+    ensures { λ r. ⌜ r ≡ markAfter mark b ⌝ }
+{
+    match mark {
+        PendingMark::Nothing => b,
+        PendingMark::Set => true,
+        PendingMark::Clear => false,
+    }
+}
+
+fn lay(c: Card, t: Transaction) -> Card
+    ensures { λ r. ⌜ r ≡ withKept c (laid t (kept c)) ⌝ }
+{
+    let mut d = laid_pin(c, t);
+    let mark = t.mark;
+    d.mark = mark_after(mark, d.mark);
+    d
+}
+
+// An accepted Open, of a record whose counters can grow.
+fn opened(mut c: Card, input: &[u8]) -> Reply
+    requires { ⌜ (c .atc < 65535) × (c .counters .session < 65535) ⌝ }
+    ensures { λ r. ⌜ r ≡ openAs c (now (input .entry)) accept ⌝ }
+{
+    c.atc += 1;
+    let mut n = c.counters;
+    n.session += 1;
+    c.counters = n;
+    let key = session_key(c);
+    let kind = kind_for(c.mark);
+    let g = cryptogram::cryptogram(&key, kind, c.atc, input);
+    let bytes = g.bytes;
+    c.transaction = begun(c.mark, bytes);
+    Reply {
+        card: c,
+        code: 0,
+        kind: cryptogram::kind_number(kind),
+        bytes,
+    }
+}
+
+// The pending mark that a command orders.
+fn mark_for(set: bool) -> PendingMark
+    ensures { λ r. ⌜ r ≡ markFor set ⌝ }
+{
+    if set {
+        PendingMark::Set
+    } else {
+        PendingMark::Clear
+    }
+}
+
+// A mark becomes the pending one.
+fn take_mark(mut c: Card, set: bool) -> Reply
+    ensures { λ r. ⌜ r ≡ scriptAs c (takes (newMark set)) ⌝ }
+{
+    let t = c.transaction;
+    let phase = t.phase;
+    let cryptogram = t.cryptogram;
+    let p = t.pin;
+    let u = Transaction {
+        phase,
+        cryptogram,
+        pin: p,
+        count: t.count,
+        mark: mark_for(set),
+        spoilt: t.spoilt,
+    };
+    c.transaction = u;
+    plainly(c, 0)
+}
+
+// The PIN of an enciphered block becomes the pending one; or 9.
+fn take_pin(mut c: Card, block: &[u8]) -> Reply
+    ensures { λ r. ⌜ r ≡ scriptAs c (lastCheck SetPin (decipherPin (smcKey c) (now (block .entry)))) ⌝ }
+{
+    let key = smc_key(c);
+    let x = pin::decipher_pin(&key, block);
+    if x.code != 0 {
+        return spoiled(c, 9);
+    }
+    let mut t = c.transaction;
+    let p = x.pin;
+    t.pin = p;
+    t.count = x.count;
+    c.transaction = t;
+    plainly(c, 0)
+}
+
+// What a command orders becomes pending; the block is the message's data.
+fn take(c: Card, command: Command, block: &[u8]) -> Reply
+    ensures { λ r. ⌜ r ≡ scriptAs c (lastCheck command (decipherPin (smcKey c) (now (block .entry)))) ⌝ }
+{
+    match command {
+        Command::SetPin => take_pin(c, block),
+        Command::SetMark => take_mark(c, true),
+        Command::ClearMark => take_mark(c, false),
+    }
+}
+
+// The checks of a listed command. The fresh SMI key is counted before the code is looked at, and uncounted on a match.
+fn obey(mut c: Card, command: Command, header: &[u8], message: &[u8], block: &[u8]) -> Reply
+    requires { ⌜ now block ≡ dataOf (now message) ⌝ }
+    ensures { λ r. ⌜ r ≡ scriptAs c (forCommand c (now (header .entry)) (now (message .entry)) (One command)) ⌝ }
+{
+    let mut n = c.counters;
+    if n.failures == 65535 {
+        return spoiled(c, 7);
+    }
+    let key = smi_key(c);
+    n.failures += 1;
+    c.counters = n;
+    if !message::code_fits(&key, header, message) {
+        return spoiled(c, 8);
+    }
+    n.failures -= 1;
+    c.counters = n;
+    take(c, command, block)
+}
+
+// The checks of a script in an open transaction.
+fn judge(c: Card, header: &[u8], message: &[u8]) -> Reply
+    ensures { λ r. ⌜ r ≡ scriptAs c (inOpen c (now (header .entry)) (now (message .entry))) ⌝ }
+{
+    if header.len() != 4 {
+        return spoiled(c, 1);
+    }
+    let Opened::Data { tag, place, length } = message::shape(message) else {
+        return spoiled(c, 4);
+    };
+    let Listed::One(command) = Command::listed(header, tag, length) else {
+        return spoiled(c, 5);
+    };
+    let end = place + length;
+    obey(c, command, header, message, &message[place..end])
+}
+
+// Whether an ARQC transaction is open.
+fn is_arqc(phase: Phase) -> bool
+    ensures { λ r. ⌜ r ≡ isArqc phase ⌝ }
+{
+    match phase {
+        Phase::Idle => false,
+        Phase::Arqc => true,
+        Phase::Aac => false,
+    }
+}
+
+// No record: every call refuses it.
+fn blank() -> Card
+    ensures { λ r. ⌜ r ≡ blankAs ⌝ }
+{
+    Card {
+        ac: [0; 32],
+        smi: [0; 32],
+        smc: [0; 32],
+        pin: [0; 12],
+        count: 0,
+        mark: false,
+        atc: 0,
+        counters: Counters {
+            session: 0,
+            failures: 0,
+            decipherments: 0,
+            authentications: 0,
+        },
+        transaction: no_transaction(),
+    }
+}
+
+impl Card {
+    // A fresh record of keys, transaction counter, counter block, block mark (0 or 1) and PIN block in clear; or 1, 9 and a blank record.
+    pub fn personalise(
+        ac: [u8; 32],
+        smi: [u8; 32],
+        smc: [u8; 32],
+        atc: u16,
+        counters: [u8; 8],
+        mark: u8,
+        block: [u8; 8],
+    ) -> Reply
+        ensures { λ r. ⌜ r ≡ personalised ac smi smc atc counters mark block ⌝ }
+    {
+        if mark > 1 {
+            return plainly(blank(), 1);
+        }
+        let x = pin::read_block(block);
+        if x.code != 0 {
+            return plainly(blank(), 9);
+        }
+        let p = x.pin;
+        let card = Card {
+            ac,
+            smi,
+            smc,
+            pin: p,
+            count: x.count,
+            mark: mark == 1,
+            atc,
+            counters: pin::read_counters(counters),
+            transaction: no_transaction(),
+        };
+        plainly(card, 0)
+    }
+
+    // Open, of the terminal's 65 bytes: 6, 1, 7.
+    pub fn open(mut self, input: &[u8]) -> Reply
+        ensures { λ r. ⌜ r ≡ step self (Open (now (input .entry))) ⌝ }
+    {
+        if !is_sound(self) {
+            return plainly(self, 1);
+        }
+        let t = self.transaction;
+        let phase = t.phase;
+        if is_open(phase) {
+            return plainly(self, 6);
+        }
+        if input.len() != 65 {
+            return plainly(self, 1);
+        }
+        if self.atc == 65535 {
+            return plainly(self, 7);
+        }
+        let n = self.counters;
+        if n.session == 65535 {
+            return plainly(self, 7);
+        }
+        opened(self, input)
+    }
+
+    // The issuer's answer, ARPC and CSU: 6, 1, 11.
+    pub fn issuer_answer(mut self, arpc: &[u8], csu: &[u8]) -> Reply
+        ensures { λ r. ⌜ r ≡ step self (IssuerAnswer (now (arpc .entry)) (now (csu .entry))) ⌝ }
+    {
+        if !is_sound(self) {
+            return plainly(self, 1);
+        }
+        let t = self.transaction;
+        let phase = t.phase;
+        if !is_arqc(phase) {
+            return plainly(self, 6);
+        }
+        if arpc.len() != 8 {
+            return plainly(self, 1);
+        }
+        if csu.len() != 4 {
+            return plainly(self, 1);
+        }
+        let own = arpc_for(self, csu);
+        if !octets::same(arpc, &own) {
+            return plainly(self, 11);
+        }
+        let mut n = self.counters;
+        n.session = 0;
+        self.counters = n;
+        plainly(self, 0)
+    }
+
+    // A script command, header and message: 6, 1, 4, 5, 7, 8, 9.
+    pub fn script(mut self, header: &[u8], message: &[u8]) -> Reply
+        ensures { λ r. ⌜ r ≡ step self (Script (now (header .entry)) (now (message .entry))) ⌝ }
+    {
+        if !is_sound(self) {
+            return plainly(self, 1);
+        }
+        let t = self.transaction;
+        let phase = t.phase;
+        if !is_open(phase) {
+            return plainly(self, 6);
+        }
+        judge(self, header, message)
+    }
+
+    // Close: 6, 10. What is pending becomes what is kept, or is dropped.
+    pub fn close(mut self) -> Reply
+        ensures { λ r. ⌜ r ≡ step self Close ⌝ }
+    {
+        if !is_sound(self) {
+            return plainly(self, 1);
+        }
+        let t = self.transaction;
+        let phase = t.phase;
+        if !is_open(phase) {
+            return plainly(self, 6);
+        }
+        if t.spoilt {
+            self.transaction = no_transaction();
+            return plainly(self, 10);
+        }
+        let mut d = lay(self, t);
+        d.transaction = no_transaction();
+        plainly(d, 0)
+    }
+
+    // Withdraw, which drops what is pending.
+    pub fn withdraw(mut self) -> Reply
+        ensures { λ r. ⌜ r ≡ step self Withdraw ⌝ }
+    {
+        if !is_sound(self) {
+            return plainly(self, 1);
+        }
+        self.transaction = no_transaction();
+        plainly(self, 0)
+    }
+
+    // Counters: 6. The enciphered counter block.
+    pub fn counter_block(self) -> Reply
+        ensures { λ r. ⌜ r ≡ step self CountersCall ⌝ }
+    {
+        if !is_sound(self) {
+            return plainly(self, 1);
+        }
+        let t = self.transaction;
+        let phase = t.phase;
+        if !is_open(phase) {
+            return plainly(self, 6);
+        }
+        let bytes = counters_for(self);
+        Reply {
+            card: self,
+            code: 0,
+            kind: 0,
+            bytes,
+        }
+    }
+}

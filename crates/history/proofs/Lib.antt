@@ -1,0 +1,6 @@
+pub mod Change
+pub mod Accepted
+pub mod Keeps
+pub mod Ledger
+pub mod Counts
+pub mod Strike

@@ -1,0 +1,4 @@
+pub mod Run
+pub mod Demand2
+pub mod Decides
+pub mod Demand3

@@ -7,9 +7,7 @@ use Rattle.message.proofs.wrap.Statement.{statement}
 use Rattle.message.proofs.wrap.Tie as tie
 
 returns : tie.Need-returns
-returns c =
-    let x = c .before .before .before .before .before .before .args in
-    wrap-refused (now (x .key)) (now (x .header)) (x .tag) (now (x .«data»)) (now (x .buffer)) (x .place) _ (c .before .wrap-number .ensures) (c .if1 .taken)
+returns c = search wrap-refused
 
 sub-write-tag : tie.Need-sub-write-tag
 sub-write-tag c =

@@ -4,7 +4,8 @@ ghost use mathlib.Core.Bool.{true};
 ghost use mathlib.Core.List.{_++_, map};
 ghost use Prim.Native.Nat.{_+_, _-_, _*_, _%_, _≤_};
 ghost use lib.ListN.{length, take, drop, replicate};
-ghost use Rattle.pin.specs.PinBlock.{pinFits, joined, halves, fields, pinBlock, wellFormed};
+ghost use Rattle.octets.specs.Digits.{pairs};
+ghost use Rattle.pin.specs.PinBlock.{pinFits, halves, fields, pinBlock, wellFormed};
 ghost use Rattle.pin.specs.CounterBlock.{counterBlock, countersOf};
 ghost use Rattle.pin.specs.Answers.{writePin, readBlock, readPin, encipherPin, decipherPin};
 
@@ -64,7 +65,7 @@ fn fields_of(pin: &[u8]) -> [u8; 16]
 
 // Half-bytes to bytes.
 fn join(h: [u8; 16]) -> [u8; 8]
-    ensures { λ r. ⌜ r ≡ joined (map (λ x. x % 16) h) ⌝ }
+    ensures { λ r. ⌜ r ≡ pairs 16 (map (λ x. x % 16) h) ⌝ }
 {
     [
         16 * (h[0] % 16) + h[1] % 16,

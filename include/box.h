@@ -15,16 +15,18 @@
  * or reads or writes anything else, so all may be called from several threads at once. A number is checked as the type it is passed in: C
  * makes 5 of the int 261 before a function with a uint8_t sees it.
  *
- * The script that changes a PIN, from the card's master keys MK_SMI and MK_SMC and the cryptogram of the transaction:
+ * The script that changes a PIN, from the issuer's master keys for SMI and SMC, the card, and the cryptogram of the transaction:
+ *    box_card_key (issuer's key for SMI, card)      MK_SMI
+ *    box_card_key (issuer's key for SMC, card)      MK_SMC
  *    box_script_key (MK_SMI, cryptogram)            SK_SMI
  *    box_script_key (MK_SMC, cryptogram)            SK_SMC
  *    box_write_pin (digits)                         the PIN block
  *    box_encipher (SK_SMC, PIN block)               the enciphered PIN block, 8 bytes
- *    box_wrap (SK_SMI, header 84 24 00 02, tag 0x87, the 8 bytes)
- * Blocking the card is header 84 1e 00 00 and tag 0x81 with no data, unblocking it 84 18 00 00. host/box.c does all of this.
+ *    box_wrap (SK_SMI, header 84 24 00 02, tag 0x87, the 8 bytes)        the message, 16 bytes
+ * host/example.c is this, whole. Blocking the card is header 84 1e 00 00 and tag 0x81 with no data, unblocking it 84 18 00 00: host/box.c.
  *
- * To compile and link on x86-64, after `make host` (elsewhere with x86_64-linux-gnu-gcc):
- *    gcc -Iinclude program.c target/staticlib/libexports.a
+ * To compile, link and start on x86-64, after `make host` (elsewhere with x86_64-linux-gnu-gcc; tools/run starts what stands in target/bin):
+ *    gcc -Iinclude program.c target/staticlib/libexports.a -o target/bin/program && tools/run program
  */
 #ifndef BOX_H
 #define BOX_H
@@ -52,7 +54,8 @@ uint8_t box_derive(const uint8_t *key, size_t key_length, const uint8_t *seed, s
  * Each pair of card digits is one byte of the seed, its number 0 to 99. out: 32. Refusals 1, 2. */
 uint8_t box_card_key(const uint8_t *issuer, size_t issuer_length, const uint8_t *pan, size_t pan_length, uint8_t sequence, uint8_t *out, size_t out_length);
 
-/* The same with the card digits as packed decimal, for a bank whose host packs them. out: 32. Refusals 1, 2. */
+/* The same with the card digits as packed decimal, for a bank whose host packs them: another key for the same card, and the reading by which
+ * the master keys published in R 1323565.1.010 come out (docs/DECISIONS.md, 1). out: 32. Refusals 1, 2. */
 uint8_t box_card_key_packed(const uint8_t *issuer, size_t issuer_length, const uint8_t *pan, size_t pan_length, uint8_t sequence, uint8_t *out, size_t out_length);
 
 /* The session key for cryptograms, from the master key AC of 32 bytes and the transaction counter. out: 32. Refusal 1. */

@@ -15,7 +15,7 @@ use Rattle.cryptogram.specs.declared.Kind.{Kind}
 use Rattle.cryptogram.specs.declared.Kind.the-variants.{Arqc, Tc, Aac}
 use Rattle.cryptogram.specs.declared.KindRead.the-variants.{Known}
 use Rattle.cryptogram.specs.Cryptogram.{twice, doubleCode, cryptogramOf, arpcOf}
-use Rattle.cryptogram.specs.Answers.{yes, no, cryptogramAnswer, arpcAnswer, kindNumber, kindOf}
+use Rattle.cryptogram.specs.Answers.{yes, no, cryptogramAnswer, arpcAnswer, kindNumber, kindOf, kindCode}
 use Rattle.cryptogram.proofs.DataLaws.{data-length}
 
 -- the code of 72 bytes comes with no refusal
@@ -63,3 +63,12 @@ unfolding kindOf kindNumber
 kind-read Arqc = refl
 kind-read Tc = refl
 kind-read Aac = refl
+
+-- and any other number is 1
+pub kind-accepted : (kind : Kind) → kindCode (kindOf (kindNumber kind)) ≡ 0
+unfolding kindCode
+kind-accepted kind = ap kindCode (kind-read kind)
+
+pub kind-refused : (n : ℕ) → ((kind : Kind) → n ≡ kindNumber kind → ⊥) → kindCode (kindOf n) ≡ 1
+unfolding kindCode kindOf
+kind-refused n h = simp (ne-eqb _ _ (h Arqc), ne-eqb _ _ (h Tc), ne-eqb _ _ (h Aac))

@@ -5,7 +5,7 @@ ghost use lib.ListN.{length, replicate};
 ghost use Rattle.cipher.specs.Gost.{subkeys};
 ghost use Rattle.cryptogram.specs.Data.{marked};
 ghost use Rattle.cryptogram.specs.Cryptogram.{twice as written_twice, doubleCode, string, cryptogramOf, arpcString, arpcOf};
-ghost use Rattle.cryptogram.specs.Answers.{cryptogramAnswer, arpcAnswer, kindNumber, kindOf};
+ghost use Rattle.cryptogram.specs.Answers.{no, cryptogramAnswer, arpcAnswer, kindNumber, kindOf};
 
 // The kind of a cryptogram that answers the first command.
 pub enum Kind {
@@ -153,21 +153,25 @@ pub fn arpc_with(k: [u32; 8], cryptogram: [u8; 8], csu: [u8; 4]) -> [u8; 8]
     double_code_with(k, arpc_string(&cryptogram, &csu))
 }
 
+// Refusal 1 and zeros.
+fn refused() -> Answer
+    ensures { λ r. ⌜ r ≡ no ⌝ }
+{
+    Answer {
+        code: 1,
+        bytes: [0; 8],
+    }
+}
+
 // A cryptogram under a session key of 32 bytes, of 65 bytes of data; other lengths: 1.
 pub fn cryptogram(key: &[u8], kind: Kind, counter: u16, d: &[u8]) -> Answer
     ensures { λ r. ⌜ r ≡ cryptogramAnswer (now (key .entry)) kind counter (now (d .entry)) ⌝ }
 {
     if key.len() != 32 {
-        return Answer {
-            code: 1,
-            bytes: [0; 8],
-        };
+        return refused();
     }
     if d.len() != 65 {
-        return Answer {
-            code: 1,
-            bytes: [0; 8],
-        };
+        return refused();
     }
     let bytes = double_code(key, string_of(kind, counter, d));
     Answer { code: 0, bytes }
@@ -178,22 +182,13 @@ pub fn arpc(key: &[u8], cryptogram: &[u8], csu: &[u8]) -> Answer
     ensures { λ r. ⌜ r ≡ arpcAnswer (now (key .entry)) (now (cryptogram .entry)) (now (csu .entry)) ⌝ }
 {
     if key.len() != 32 {
-        return Answer {
-            code: 1,
-            bytes: [0; 8],
-        };
+        return refused();
     }
     if cryptogram.len() != 8 {
-        return Answer {
-            code: 1,
-            bytes: [0; 8],
-        };
+        return refused();
     }
     if csu.len() != 4 {
-        return Answer {
-            code: 1,
-            bytes: [0; 8],
-        };
+        return refused();
     }
     let bytes = double_code(key, arpc_string(cryptogram, csu));
     Answer { code: 0, bytes }

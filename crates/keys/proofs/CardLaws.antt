@@ -14,7 +14,8 @@ use Rattle.octets.specs.Digits.{digits}
 use Rattle.octets.proofs.DigitLaws.{digits-at, digits-all}
 use Rattle.octets.proofs.Parts.{elements-all, zeros-at}
 use Rattle.blocks.proofs.Laws.{lt-or-ge}
-use Rattle.keys.specs.CardNumber.{cardFits, X, sixteen, pairs}
+use Rattle.octets.specs.Digits.{pairs}
+use Rattle.keys.specs.CardNumber.{cardFits, X, sixteen}
 
 -- ---- X
 

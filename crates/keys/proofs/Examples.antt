@@ -1,7 +1,8 @@
 -- The worked examples of 01 for Y (P1, P2), and the one of annex A of 003 for pairs of digits. Assumes nothing.
 use mathlib.Core.Path.{_≡_, refl}
 use mathlib.Core.List.{[], _∷_}
-use Rattle.keys.specs.CardNumber.{X, sixteen, pairs, Y}
+use Rattle.octets.specs.Digits.{pairs}
+use Rattle.keys.specs.CardNumber.{X, sixteen, Y}
 
 -- card number 123456789012345671, sequence 95
 pub P1 : Y (1 ∷ 2 ∷ 3 ∷ 4 ∷ 5 ∷ 6 ∷ 7 ∷ 8 ∷ 9 ∷ 0 ∷ 1 ∷ 2 ∷ 3 ∷ 4 ∷ 5 ∷ 6 ∷ 7 ∷ 1 ∷ []) 95

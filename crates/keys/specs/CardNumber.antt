@@ -1,10 +1,10 @@
 -- The seed Y of a card master key (01, Keys; 003, clause 4.1 and annex A). Digits stand one to an element. Assumes nothing.
-use Prim.Native.Nat.{ℕ, _+_, _-_, _*_, _/_, _%_}
+use Prim.Native.Nat.{ℕ, _-_, _/_, _%_}
 use mathlib.Core.Bool.{Bool, _&&_}
 use mathlib.Core.List.{List, [], _∷_, _++_}
 use lib.Dec.{leb}
 use lib.ListN.{length, drop, replicate}
-use Rattle.octets.specs.Digits.{digits}
+use Rattle.octets.specs.Digits.{digits, pairs}
 
 -- 01, refusal 2: a card number is 12 to 19 digits, a sequence number at most 99
 unfoldable pub cardFits : List ℕ → ℕ → Bool
@@ -17,12 +17,6 @@ X pan sequence = pan ++ sequence / 10 ∷ sequence % 10 ∷ []
 -- "the last 16 digits of X. A shorter X gets zero digits after it until there are 16."
 unfoldable pub sixteen : List ℕ → List ℕ
 sixteen x = drop (length x - 16) x ++ replicate (16 - length x) 0
-
--- each pair of digits as one byte: base 10 is the pair's number, base 16 is packed decimal
-unfoldable pub pairs : ℕ → List ℕ → List ℕ
-pairs base [] = []
-pairs base (a ∷ []) = []
-pairs base (a ∷ b ∷ s) = (base * a + b) ∷ pairs base s
 
 -- "Each pair of digits becomes one byte holding that pair's number, 0 to 99 (annex A of 003), not packed decimal."
 unfoldable pub Y : List ℕ → ℕ → List ℕ

@@ -5,7 +5,8 @@ ghost use mathlib.Core.List.{_++_};
 ghost use Prim.Native.Nat.{_+_, _-_, _*_, _≤_};
 ghost use lib.ListN.{length, getD, take, replicate};
 ghost use Rattle.octets.specs.Digits.{digits};
-ghost use Rattle.keys.specs.CardNumber.{cardFits, X, sixteen as lastSixteen, pairs};
+ghost use Rattle.octets.specs.Digits.{pairs};
+ghost use Rattle.keys.specs.CardNumber.{cardFits, X, sixteen as lastSixteen};
 ghost use Rattle.keys.specs.Answers.{cardAnswer, cardKey, cardKeyPacked, sessionKey, scriptKey, counterKey, idnAnswer};
 use derive::KeyAnswer;
 

@@ -10,8 +10,9 @@ use Rattle.octets.specs.Same.{same}
 use Rattle.octets.proofs.SameLaws.{same-true}
 use Rattle.message.specs.declared.command.Command.{Command}
 use Rattle.message.specs.declared.command.Command.the-variants.{SetPin, SetMark, ClearMark}
+use Rattle.message.specs.declared.command.Listed.{Listed}
 use Rattle.message.specs.declared.command.Listed.the-variants.{One, Unlisted}
-use Rattle.message.specs.Command.{headerOf, tagFor, lengthFor, isFor, listed, firstOf, commandOf}
+use Rattle.message.specs.Command.{headerOf, tagFor, lengthFor, isFor, listed, firstOf, commandOf, refusal}
 
 module _ (k : Command) (header : List ℕ) (tag n : ℕ) where
   module _ (own : List ℕ) (e : own ≡ headerOf k) (t : Bool) (f : t ≡ same header own) where
@@ -81,3 +82,16 @@ unfolding commandOf firstOf listed isFor headerOf tagFor lengthFor same
 its-listed SetPin = refl
 its-listed SetMark = refl
 its-listed ClearMark = refl
+
+-- the numbers: 0 of a command, 5 where header, tag and length are no command's
+pub accepted-listed : (k : Command) → refusal (commandOf (headerOf k) (tagFor k) (lengthFor k)) ≡ 0
+unfolding refusal
+accepted-listed k = ap refusal (its-listed k)
+
+pub refused-unlisted : (header : List ℕ) (tag n : ℕ) → ((k : Command) → Its k header tag n → ⊥) → refusal (commandOf header tag n) ≡ 5
+unfolding refusal
+refused-unlisted header tag n h = go (commandOf header tag n) refl
+  where
+    go : (l : Listed) → commandOf header tag n ≡ l → refusal l ≡ 5
+    go (One k) e = absurd (h k (listed-its header tag n k e))
+    go Unlisted e = refl

@@ -24,6 +24,17 @@ module _ (b : List ℕ) (p : ℕ) (s : List ℕ) (h : p + length s ≤ length b)
       ∙ ap (take (length s)) (drop-at (take p b) (s ++ drop (p + length s) b) p (length-take-le p b (omega arith)))
       ∙ take-at s (drop (p + length s) b) (length s) refl
 
+  -- what stands before it and after it stays
+  pub laid-before : take p (laid b p s) ≡ take p b
+  unfolding laid
+  laid-before =
+      ap (take p) (append-assoc (take p b) s (drop (p + length s) b))
+      ∙ take-at (take p b) (s ++ drop (p + length s) b) p (length-take-le p b (omega arith))
+
+  pub laid-after : drop (p + length s) (laid b p s) ≡ drop (p + length s) b
+  unfolding laid
+  laid-after = drop-at (take p b ++ s) (drop (p + length s) b) (p + length s) head-length
+
   -- the next string after it
   pub laid-laid : (t : List ℕ) (q : ℕ) → q ≡ p + length s → laid (laid b p s) q t ≡ laid b p (s ++ t)
   unfolding laid
@@ -52,8 +63,3 @@ laid-lent b a x p s h e =
     ∙ sym (append-assoc (take a b) (take p q ++ s) (drop (p + length s) q))
     ∙ ap₂ (λ (y r : List ℕ). y ++ r) (sym (append-assoc (take a b) (take p q) s) ∙ ap (λ (y : List ℕ). y ++ s) (sym (take-add a p b)))
     (drop-drop (p + length s) a b ∙ ap (λ (k : ℕ). drop k b) n)
-
--- laid over the whole
-pub laid-whole : (b s : List ℕ) → length b ≡ length s → laid b 0 s ≡ s
-unfolding laid
-laid-whole b s e = ap (λ (r : List ℕ). s ++ r) (drop-of-length-le b {i = 0 + length s} (omega arith)) ∙ append-nil s

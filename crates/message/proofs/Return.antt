@@ -2,7 +2,7 @@
 use mathlib.Core.Path.{_≡_, refl, sym, ap, ap₂, _∙_}
 use mathlib.Core.Bool.{Bool, true, false, cond, and-eq-true-iff}
 use mathlib.Core.List.{List, _++_}
-use Prim.Native.Nat.{ℕ, _+_, _≤_, zero-le}
+use Prim.Native.Nat.{ℕ, _+_, _≤_}
 use native.Mathlib.Omega.{arith}
 use borrow.Author.Tests.{eq-eqb, le-leb, eqb-true}
 use lib.Dec.{eqb}
@@ -16,7 +16,7 @@ use Rattle.message.specs.Shape.{tagFits, body, bodySize, sizeOf, tagOf, 
 use Rattle.message.specs.Code.{codeFor, message, given, codeFits}
 use Rattle.message.specs.Answers.{answer, openNumber, opened, laid, wrapNumber, Written, wrapped}
 use Rattle.message.proofs.ShapeLaws.{length-body, length-read, tag-read, data-read, body-read, code-read, shape-parts}
-use Rattle.message.proofs.LaidLaws.{laid-there, laid-whole}
+use Rattle.message.proofs.LaidLaws.{laid-there}
 use Rattle.message.proofs.WrapLaws.{accepted, wrap-fits, wrap-accepted}
 
 length-code : (key header m : List ℕ) → length (codeFor key header m) ≡ 4
@@ -90,14 +90,7 @@ module _ (key header : List ℕ) (tag : ℕ) (d b : List ℕ) (place : ℕ) (e :
       ap₂ (λ (k : ℕ) (w : Written). take k (drop place (w .buffer))) (sym n) (wrap-accepted key header tag d b place number-zero)
       ∙ laid-there b place m (omega arith)
 
-  -- opening what was wrapped gives tag, place and length of the data
-  pub open-wrapped : opened key header (written key header tag d b place) ≡ Data tag (placeOf (length d)) (length d)
-  open-wrapped =
-      let a = accepted key header tag (length d) (length b) place number-zero in
-      ap (opened key header) written-message ∙ open-made key header tag d (a .are-given) (a .tagged) (a .most)
-
-  -- and the data there are the data
-  pub data-wrapped : take (length d) (drop (placeOf (length d)) (written key header tag d b place)) ≡ d
+  data-wrapped : take (length d) (drop (placeOf (length d)) (written key header tag d b place)) ≡ d
   unfolding dataOf message
   data-wrapped =
       let a = accepted key header tag (length d) (length b) place number-zero in
@@ -106,6 +99,13 @@ module _ (key header : List ℕ) (tag : ℕ) (d b : List ℕ) (place : ℕ) (e :
       ap (λ (x : List ℕ). take (length d) (drop (placeOf (length d)) x)) written-message
       ∙ ap (λ (k : ℕ). take k (drop (placeOf k) (body tag d ++ c))) (sym n)
       ∙ data-read tag d c (a .most)
+
+  -- opening what was wrapped gives the tag, and a place and length at which the data stand
+  pub open-wrapped : (opened key header (written key header tag d b place) ≡ Data tag (placeOf (length d)) (length d))
+      × (take (length d) (drop (placeOf (length d)) (written key header tag d b place)) ≡ d)
+  open-wrapped =
+      let a = accepted key header tag (length d) (length b) place number-zero in
+      (ap (opened key header) written-message ∙ open-made key header tag d (a .are-given) (a .tagged) (a .most), data-wrapped)
 
 -- what opening takes
 record Taken (key header m : List ℕ) (tag place n : ℕ) : Type 0 where
@@ -134,28 +134,27 @@ code-there key header m e =
     let b = and-eq-true-iff (shape m) _ .0 (a .1) in
     same-true _ _ (b .1)
 
--- wrapping what opening took gives its bytes
-pub wrap-opened : (key header m : List ℕ) (tag place n : ℕ) (b : List ℕ) → opened key header m ≡ Data tag place n → length b ≡ length m
-    → wrapped key header tag (take n (drop place m)) b 0 ≡ record { code = 0; buffer = m }
+-- wrapping what opening took, at any place of any buffer into which it fits, lays its bytes there
+pub wrap-opened : (key header m : List ℕ) (tag place n : ℕ) → opened key header m ≡ Data tag place n → (b : List ℕ) (p : ℕ) → p + length m ≤ length b
+    → wrapped key header tag (take n (drop place m)) b p ≡ record { code = 0; buffer = laid b p m }
 unfolding dataOf message
-wrap-opened key header m tag place n b e l =
+wrap-opened key header m tag place n e b p l =
     let t = taken key header m tag place n e in
-    let p = shape-parts m (t .shaped-so) in
+    let q = shape-parts m (t .shaped-so) in
     let d = take n (drop place m) in
     let f : d ≡ dataOf m = ap₂ (λ (x y : ℕ). take x (drop y m)) (t .the-length) (t .the-place) in
-    let g : body tag d ≡ bodyOf m = ap₂ body (t .the-tag) f ∙ sym (p .its-body) in
+    let g : body tag d ≡ bodyOf m = ap₂ body (t .the-tag) f ∙ sym (q .its-body) in
     let w : message key header tag d ≡ m =
     ap (λ (x : List ℕ). x ++ codeFor key header x) g
-    ∙ ap₂ (λ (x y : List ℕ). x ++ y) (p .its-body) (sym (code-there key header m (t .coded-so)))
-    ∙ sym (p .whole)
+    ∙ ap₂ (λ (x y : List ℕ). x ++ y) (q .its-body) (sym (code-there key header m (t .coded-so)))
+    ∙ sym (q .whole)
     in
-    let s : length d ≡ lengthOf m = ap length f ∙ p .sized in
-    let o : length d ≤ largest = omega (arith, p .most) in
+    let s : length d ≡ lengthOf m = ap length f ∙ q .sized in
+    let o : length d ≤ largest = omega (arith, q .most) in
     let k : length m ≡ placeOf (length d) + length d + 6 = ap length (sym w) ∙ message-size key header tag d in
-    let z : wrapNumber key header tag (length d) (length b) 0 ≡ 0 =
+    let z : wrapNumber key header tag (length d) (length b) p ≡ 0 =
     sym
-    (wrap-fits key header tag (length d) (length b) 0 true (sym (t .are-given)) refl true (sym (ap tagFits (t .the-tag) ∙ p .tagged)) refl o zero-le (placeOf (length d)) refl
+    (wrap-fits key header tag (length d) (length b) p true (sym (t .are-given)) refl true (sym (ap tagFits (t .the-tag) ∙ q .tagged)) refl o (omega arith) (placeOf (length d)) refl
     (omega arith))
     in
-    wrap-accepted key header tag d b 0 z
-    ∙ ap (λ (x : List ℕ). record { code = 0; buffer = x }) (laid-whole b (message key header tag d) (l ∙ ap length (sym w)) ∙ w)
+    wrap-accepted key header tag d b p z ∙ ap (λ (x : List ℕ). record { code = 0; buffer = laid b p x }) w

@@ -1,5 +1,5 @@
 -- Digits: of a card number or a PIN, one to an element, and of hexadecimal text. Assumes nothing.
-use Prim.Native.Nat.{ℕ, zero, suc, _+_, _-_, _/_, _%_}
+use Prim.Native.Nat.{ℕ, zero, suc, _+_, _-_, _*_, _/_, _%_}
 use mathlib.Core.Bool.{Bool, true, false, _&&_, cond}
 use mathlib.Core.List.{List, [], _∷_}
 use lib.Dec.{leb, eqb}
@@ -10,6 +10,12 @@ digits f zero [] = true
 digits f (suc n) [] = false
 digits f zero (x ∷ s) = eqb x f && digits f zero s
 digits f (suc n) (x ∷ s) = leb x 9 && digits f n s
+
+-- each pair of digits as one byte: base 10 is the pair's number, base 16 packs half-bytes, the high half first
+unfoldable pub pairs : ℕ → List ℕ → List ℕ
+pairs base [] = []
+pairs base (a ∷ []) = []
+pairs base (a ∷ b ∷ s) = (base * a + b) ∷ pairs base s
 
 -- the lower-case hexadecimal digit of a number below 16, in ASCII
 unfoldable pub hexDigit : ℕ → ℕ

@@ -9,10 +9,10 @@ use lib.Dec.{leb, eqb}
 use lib.ListN.{length, getD, take, drop, replicate, length-append, length-replicate}
 use lib.Seq.{paste, take-all, drop-drop}
 use Rattle.octets.specs.Numbers.{Octets}
-use Rattle.octets.specs.Digits.{digits}
+use Rattle.octets.specs.Digits.{digits, pairs}
 use Rattle.octets.proofs.DigitLaws.{digits-at}
 use Rattle.octets.proofs.Parts.{elements-all, drop-replicate}
-use Rattle.pin.specs.PinBlock.{pinFits, joined, halves, fields, wellFormed}
+use Rattle.pin.specs.PinBlock.{pinFits, halves, fields, wellFormed}
 
 -- ---- what the tests say
 
@@ -100,32 +100,32 @@ module _ (pin : List ℕ) where
       (sym (drop-drop (length pin) 2 (2 ∷ length pin ∷ replicate 14 15)) ∙ drop-replicate (length pin) 14 15)
 
 -- an even number of half-bytes is read back from its bytes, which are octets and half as many
-pub halves-joined : (s : List ℕ) (k : ℕ) → length s ≡ k + k → Small s → halves (joined s) ≡ s
-unfolding halves joined
-halves-joined [] k e h = refl
-halves-joined (x ∷ []) k e h = let z : 1 ≡ k + k = e in absurd (omega arith)
-halves-joined (x ∷ y ∷ s) zero e h = let z : suc (suc (length s)) ≡ 0 = e in absurd (omega arith)
-halves-joined (x ∷ y ∷ s) (suc k) e h =
+pub halves-pairs : (s : List ℕ) (k : ℕ) → length s ≡ k + k → Small s → halves (pairs 16 s) ≡ s
+unfolding halves pairs
+halves-pairs [] k e h = refl
+halves-pairs (x ∷ []) k e h = let z : 1 ≡ k + k = e in absurd (omega arith)
+halves-pairs (x ∷ y ∷ s) zero e h = let z : suc (suc (length s)) ≡ 0 = e in absurd (omega arith)
+halves-pairs (x ∷ y ∷ s) (suc k) e h =
     let z : suc (suc (length s)) ≡ suc k + suc k = e in
     let l : y < 16 = h 1 in
     ap₂ {C = List ℕ} (λ a t. a ∷ t) (omega arith)
-    (ap₂ {C = List ℕ} (λ a t. a ∷ t) (omega arith) (halves-joined s k (omega arith) (λ i. h (suc (suc i)))))
+    (ap₂ {C = List ℕ} (λ a t. a ∷ t) (omega arith) (halves-pairs s k (omega arith) (λ i. h (suc (suc i)))))
 
-pub length-joined : (s : List ℕ) (k : ℕ) → length s ≡ k + k → length (joined s) ≡ k
-unfolding joined
-length-joined [] k e = let z : 0 ≡ k + k = e in omega arith
-length-joined (x ∷ []) k e = let z : 1 ≡ k + k = e in absurd (omega arith)
-length-joined (x ∷ y ∷ s) zero e = let z : suc (suc (length s)) ≡ 0 = e in absurd (omega arith)
-length-joined (x ∷ y ∷ s) (suc k) e = let z : suc (suc (length s)) ≡ suc k + suc k = e in ap suc (length-joined s k (omega arith))
+pub length-pairs : (s : List ℕ) (k : ℕ) → length s ≡ k + k → length (pairs 16 s) ≡ k
+unfolding pairs
+length-pairs [] k e = let z : 0 ≡ k + k = e in omega arith
+length-pairs (x ∷ []) k e = let z : 1 ≡ k + k = e in absurd (omega arith)
+length-pairs (x ∷ y ∷ s) zero e = let z : suc (suc (length s)) ≡ 0 = e in absurd (omega arith)
+length-pairs (x ∷ y ∷ s) (suc k) e = let z : suc (suc (length s)) ≡ suc k + suc k = e in ap suc (length-pairs s k (omega arith))
 
-pub octets-joined : (s : List ℕ) → Small s → Octets (joined s)
-unfolding joined
-octets-joined [] h i = omega arith
-octets-joined (x ∷ []) h i = omega arith
-octets-joined (x ∷ y ∷ s) h zero = let a : x < 16 = h 0 in let b : y < 16 = h 1 in omega arith
-octets-joined (x ∷ y ∷ s) h (suc i) = octets-joined s (λ j. h (suc (suc j))) i
+pub octets-pairs : (s : List ℕ) → Small s → Octets (pairs 16 s)
+unfolding pairs
+octets-pairs [] h i = omega arith
+octets-pairs (x ∷ []) h i = omega arith
+octets-pairs (x ∷ y ∷ s) h zero = let a : x < 16 = h 0 in let b : y < 16 = h 1 in omega arith
+octets-pairs (x ∷ y ∷ s) h (suc i) = octets-pairs s (λ j. h (suc (suc j))) i
 
-pub joined-halves : (b : List ℕ) → joined (halves b) ≡ b
-unfolding joined halves
-joined-halves [] = refl
-joined-halves (x ∷ b) = ap₂ {C = List ℕ} (λ y t. y ∷ t) (omega arith) (joined-halves b)
+pub pairs-halves : (b : List ℕ) → pairs 16 (halves b) ≡ b
+unfolding pairs halves
+pairs-halves [] = refl
+pairs-halves (x ∷ b) = ap₂ {C = List ℕ} (λ y t. y ∷ t) (omega arith) (pairs-halves b)

@@ -9,7 +9,7 @@ use lib.Dec.{eqb}
 use lib.ListN.{length, getD, take, drop, replicate, length-append, length-replicate, length-drop}
 use lib.Seq.{take-at, take-length}
 use Rattle.octets.specs.Numbers.{Octets}
-use Rattle.octets.specs.Digits.{digits}
+use Rattle.octets.specs.Digits.{digits, pairs}
 use Rattle.octets.proofs.DigitLaws.{digits-filled, digits-refilled}
 use Rattle.octets.proofs.Parts.{elements-all}
 use Rattle.cipher.specs.Gost.{encipher, decipher}
@@ -18,9 +18,9 @@ use Rattle.cipher.specs.Answers.{blockFits}
 use Rattle.cipher.proofs.Inverse.{length-encipher, length-decipher, decipher-encipher, encipher-decipher}
 use Rattle.pin.specs.declared.PinBlock.{PinBlock}
 use Rattle.pin.specs.declared.PinRead.{PinRead}
-use Rattle.pin.specs.PinBlock.{pinFits, joined, halves, fields, pinBlock, wellFormed, pinOf}
+use Rattle.pin.specs.PinBlock.{pinFits, halves, fields, pinBlock, wellFormed, pinOf}
 use Rattle.pin.specs.Answers.{written, noBlock, found, noPin, digitsOf, writePin, readBlock, readPin, encipherPin, decipherPin}
-use Rattle.pin.proofs.BlockLaws.{Fits, fits, formed, small-fields, length-fields, halves-joined, octets-joined, joined-halves}
+use Rattle.pin.proofs.BlockLaws.{Fits, fits, formed, small-fields, length-fields, halves-pairs, octets-pairs, pairs-halves}
 use Rattle.pin.proofs.AnswerLaws.{length-pinBlock, length-pinOf, read-block}
 
 -- ---- what an accepted call says
@@ -66,12 +66,12 @@ module _ (pin : List ℕ) (f : Fits 0 (length pin) pin) where
 
   pub octets-pinBlock : Octets (pinBlock pin)
   unfolding pinBlock
-  octets-pinBlock = octets-joined (fields pin) (small-fields pin f)
+  octets-pinBlock = octets-pairs (fields pin) (small-fields pin f)
 
   pub block-read : readBlock (pinBlock pin) ≡ found pin
   unfolding readBlock pinBlock
   block-read =
-      ap (λ (h : List ℕ). cond (wellFormed h) (found (pinOf h)) (noPin 9)) (halves-joined (fields pin) 8 (length-fields pin (f .most)) (small-fields pin f))
+      ap (λ (h : List ℕ). cond (wellFormed h) (found (pinOf h)) (noPin 9)) (halves-pairs (fields pin) 8 (length-fields pin (f .most)) (small-fields pin f))
       ∙ ap (λ (t : Bool). cond t (found (pinOf (fields pin))) (noPin 9)) fields-formed
       ∙ ap found pin-fields
 
@@ -112,11 +112,11 @@ module _ (b : List ℕ) (e : length b ≡ 8) (g : wellFormed (halves b) ≡ true
       let l : length h ≡ 16 = length-halves b e in
       let k : length (drop 2 h) ≡ length h - 2 = length-drop 2 h in
       let m : 14 ≡ length (drop 2 h) = omega arith in
-      ap (λ (j : ℕ). joined (2 ∷ j ∷ (pinOf h ++ replicate (14 - j) 15))) (length-pinOf h f)
-      ∙ ap (λ (j : ℕ). joined (2 ∷ n ∷ (take n (drop 2 h) ++ replicate (j - n) 15))) m
-      ∙ ap₂ (λ (j : ℕ) (s : List ℕ). joined (j ∷ n ∷ s)) (sym (f .control)) (sym (digits-filled 15 n (drop 2 h) (f .pin .all)))
-      ∙ ap joined (ap (λ (s : List ℕ). getD s 0 0 ∷ getD s 1 0 ∷ drop 2 s) (elements-all h 16 l) ∙ sym (elements-all h 16 l))
-      ∙ joined-halves b
+      ap (λ (j : ℕ). pairs 16 (2 ∷ j ∷ (pinOf h ++ replicate (14 - j) 15))) (length-pinOf h f)
+      ∙ ap (λ (j : ℕ). pairs 16 (2 ∷ n ∷ (take n (drop 2 h) ++ replicate (j - n) 15))) m
+      ∙ ap₂ (λ (j : ℕ) (s : List ℕ). pairs 16 (j ∷ n ∷ s)) (sym (f .control)) (sym (digits-filled 15 n (drop 2 h) (f .pin .all)))
+      ∙ ap (pairs 16) (ap (λ (s : List ℕ). getD s 0 0 ∷ getD s 1 0 ∷ drop 2 s) (elements-all h 16 l) ∙ sym (elements-all h 16 l))
+      ∙ pairs-halves b
 
 write-fits : (pin : List ℕ) → pinFits 0 (length pin) pin ≡ true → writePin pin ≡ written (pinBlock pin)
 unfolding writePin

@@ -1,22 +1,17 @@
 -- The PIN block (002, clause 4.2.1 and table 3): 16 half-bytes, two to a byte, the high half first. Digits of a PIN stand one to an
 -- element. Assumes nothing.
-use Prim.Native.Nat.{ℕ, _+_, _-_, _*_, _/_, _%_}
+use Prim.Native.Nat.{ℕ, _-_, _/_, _%_}
 use mathlib.Core.Bool.{Bool, _&&_}
 use mathlib.Core.List.{List, [], _∷_, _++_}
 use lib.Dec.{leb, eqb}
 use lib.ListN.{length, getD, take, drop, replicate}
-use Rattle.octets.specs.Digits.{digits}
+use Rattle.octets.specs.Digits.{digits, pairs}
 
 -- table 3, N and P: a PIN of n digits from 0 to 9, n from 4 to 12, and fillers f to the end
 unfoldable pub pinFits : ℕ → ℕ → List ℕ → Bool
 pinFits f n s = leb 4 n && (leb n 12 && digits f n s)
 
--- half-bytes to bytes, and bytes to half-bytes
-unfoldable pub joined : List ℕ → List ℕ
-joined [] = []
-joined (h ∷ []) = []
-joined (h ∷ l ∷ s) = (16 * h + l) ∷ joined s
-
+-- bytes to half-bytes
 unfoldable pub halves : List ℕ → List ℕ
 halves [] = []
 halves (b ∷ s) = b / 16 ∷ b % 16 ∷ halves s
@@ -26,7 +21,7 @@ unfoldable pub fields : List ℕ → List ℕ
 fields pin = 2 ∷ length pin ∷ (pin ++ replicate (14 - length pin) 0xf)
 
 unfoldable pub pinBlock : List ℕ → List ℕ
-pinBlock pin = joined (fields pin)
+pinBlock pin = pairs 16 (fields pin)
 
 -- read: the half-bytes h of a block are a PIN block, and its PIN
 unfoldable pub wellFormed : List ℕ → Bool

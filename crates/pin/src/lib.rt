@@ -4,9 +4,10 @@ ghost use mathlib.Core.Bool.{true};
 ghost use mathlib.Core.List.{_++_, map};
 ghost use Prim.Native.Nat.{_+_, _-_, _*_, _%_, _≤_};
 ghost use lib.ListN.{length, take, drop, replicate};
-ghost use Rattle.pin.specs.PinBlock.{pinFits, joined, halves, fields, pinBlock, wellFormed};
+ghost use Rattle.octets.specs.Digits.{pairs};
+ghost use Rattle.pin.specs.PinBlock.{pinFits, halves, fields, pinBlock, wellFormed};
 ghost use Rattle.pin.specs.CounterBlock.{counterBlock, countersOf};
-ghost use Rattle.pin.specs.Answers.{writePin, readBlock, readPin, encipherPin, decipherPin};
+ghost use Rattle.pin.specs.Answers.{noBlock, noPin, writePin, readBlock, readPin, encipherPin, decipherPin};
 
 // A PIN block, clear or enciphered, or a refusal's number and zeros.
 pub struct PinBlock {
@@ -31,6 +32,27 @@ pub struct Counters {
     pub decipherments: u16,
     // Terminal Mutual Authentication Counter
     pub authentications: u16,
+}
+
+// A refused block: the number and zeros.
+fn no_block(code: u8) -> PinBlock
+    ensures { λ r. ⌜ r ≡ noBlock code ⌝ }
+{
+    PinBlock {
+        code,
+        bytes: [0; 8],
+    }
+}
+
+// A refused reading: the number and zeros.
+fn no_pin(code: u8) -> PinRead
+    ensures { λ r. ⌜ r ≡ noPin code ⌝ }
+{
+    PinRead {
+        code,
+        pin: [0; 12],
+        count: 0,
+    }
 }
 
 // Whether s is a PIN of n digits, n from 4 to 12, and then fillers.
@@ -64,7 +86,7 @@ fn fields_of(pin: &[u8]) -> [u8; 16]
 
 // Half-bytes to bytes.
 fn join(h: [u8; 16]) -> [u8; 8]
-    ensures { λ r. ⌜ r ≡ joined (map (λ x. x % 16) h) ⌝ }
+    ensures { λ r. ⌜ r ≡ pairs 16 (map (λ x. x % 16) h) ⌝ }
 {
     [
         16 * (h[0] % 16) + h[1] % 16,
@@ -115,10 +137,7 @@ pub fn write_pin(digits: &[u8]) -> PinBlock
     ensures { λ r. ⌜ r ≡ writePin (now (digits .entry)) ⌝ }
 {
     if !pin_fits(digits, digits.len(), 0) {
-        return PinBlock {
-            code: 12,
-            bytes: [0; 8],
-        };
+        return no_block(12);
     }
     let bytes = block_of(digits);
     PinBlock { code: 0, bytes }
@@ -165,11 +184,7 @@ pub fn read_block(block: [u8; 8]) -> PinRead
 {
     let h = split(block);
     if !well_formed(h) {
-        return PinRead {
-            code: 9,
-            pin: [0; 12],
-            count: 0,
-        };
+        return no_pin(9);
     }
     let count = h[1];
     let pin = twelve(h, count);
@@ -185,11 +200,7 @@ pub fn read_pin(block: &[u8]) -> PinRead
     ensures { λ r. ⌜ r ≡ readPin (now (block .entry)) ⌝ }
 {
     if block.len() != 8 {
-        return PinRead {
-            code: 1,
-            pin: [0; 12],
-            count: 0,
-        };
+        return no_pin(1);
     }
     read_block(eight(block))
 }
@@ -199,16 +210,10 @@ pub fn encipher_pin(key: &[u8], digits: &[u8]) -> PinBlock
     ensures { λ r. ⌜ r ≡ encipherPin (now (key .entry)) (now (digits .entry)) ⌝ }
 {
     if key.len() != 32 {
-        return PinBlock {
-            code: 1,
-            bytes: [0; 8],
-        };
+        return no_block(1);
     }
     if !pin_fits(digits, digits.len(), 0) {
-        return PinBlock {
-            code: 12,
-            bytes: [0; 8],
-        };
+        return no_block(12);
     }
     let b = block_of(digits);
     let r = cipher::encipher(key, &b);
@@ -222,11 +227,7 @@ pub fn decipher_pin(key: &[u8], block: &[u8]) -> PinRead
 {
     let r = cipher::decipher(key, block);
     if r.code != 0 {
-        return PinRead {
-            code: 1,
-            pin: [0; 12],
-            count: 0,
-        };
+        return no_pin(1);
     }
     let b = r.bytes;
     read_block(b)

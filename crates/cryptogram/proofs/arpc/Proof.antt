@@ -2,23 +2,20 @@ use mathlib.Core.Path.{ap, _∙_}
 use denote.Ref.{now}
 use Rattle.cipher.specs.Gost.{subkeys}
 use Rattle.cryptogram.specs.Cryptogram.{doubleCode, arpcOf}
-use Rattle.cryptogram.specs.Answers.{yes, no}
+use Rattle.cryptogram.specs.Answers.{yes}
 use Rattle.cryptogram.proofs.AnswerLaws.{arpc-no-key, arpc-no-cryptogram, arpc-no-csu, arpc-made}
 use borrow.Author.Needs.{needs}
 use Rattle.cryptogram.proofs.arpc.Statement.{statement}
 use Rattle.cryptogram.proofs.arpc.Tie as tie
 
 returns : tie.Need-returns
-unfolding no
-returns c = search arpc-no-key
+returns c = c .refused .ensures ∙ search arpc-no-key
 
 returns-2 : tie.Need-returns-2
-unfolding no
-returns-2 c = search arpc-no-cryptogram
+returns-2 c = c .refused2 .ensures ∙ search arpc-no-cryptogram
 
 returns-3 : tie.Need-returns-3
-unfolding no
-returns-3 c = search arpc-no-csu
+returns-3 c = c .refused3 .ensures ∙ search arpc-no-csu
 
 returns-4 : tie.Need-returns-4
 unfolding yes arpcOf
@@ -29,4 +26,4 @@ returns-4 c =
 pub arpc-spec : {M : Type 1} → statement M
 arpc-spec =
     tie.close
-    (tie.spec returns returns-2 returns-3 (λ c κs. search needs) (λ c κs. search needs) returns-4)
+    (tie.spec (λ c κs. search needs) returns (λ c κs. search needs) returns-2 (λ c κs. search needs) returns-3 (λ c κs. search needs) (λ c κs. search needs) returns-4)

@@ -19,7 +19,7 @@ returns : tie.Need-returns Inv-loop μ-loop
 returns c = given-length _ _ _ _ (λ e. omega arith)
 
 returns-2 : tie.Need-returns-2 Inv-loop μ-loop
-returns-2 c = given-refused _ _ _ _ (c .before .if1 .left) (c .if2 .taken)
+returns-2 c = search given-refused
 
 loop-holds : tie.Need-loop-holds Inv-loop μ-loop
 loop-holds c = (omega arith, c .before .if1 .left, paste-zero _ 0 (c .before .before .args .bytes .now))

@@ -3,7 +3,8 @@ use mathlib.Core.Path.{_≡_, sym, ap, _∙_}
 use borrow.Author.Tests.{not-false}
 use Rattle.octets.specs.Digits.{digits}
 use Rattle.derive.specs.Answers.{noKey, derivation}
-use Rattle.keys.specs.CardNumber.{X, sixteen, pairs}
+use Rattle.octets.specs.Digits.{pairs}
+use Rattle.keys.specs.CardNumber.{X, sixteen}
 use Rattle.keys.proofs.CardLaws.{fits, sixteen-digits, length-sixteen, length-pairs}
 use Rattle.keys.proofs.AnswerLaws.{card-no-key, card-no-card, card-yes}
 use borrow.Author.Needs.{needs}

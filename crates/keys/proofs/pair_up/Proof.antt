@@ -7,7 +7,7 @@ use lib.ListN.{length, set, getD, replicate}
 use lib.Seq.{paste, paste-zero}
 use Rattle.octets.proofs.Parts.{made-turn, made-end}
 use Rattle.octets.proofs.DigitLaws.{digits-at}
-use Rattle.keys.specs.CardNumber.{pairs}
+use Rattle.octets.specs.Digits.{pairs}
 use Rattle.keys.proofs.CardLaws.{pairs-at, length-pairs, pair-fits}
 use Rattle.keys.proofs.pair_up.Statement.{statement}
 use Rattle.keys.proofs.pair_up.Tie as tie

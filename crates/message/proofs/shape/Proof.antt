@@ -17,7 +17,7 @@ add-if2 : tie.Need-add-if2
 add-if2 c = record { fits = omega (arith, place-small (c .before .before .length-of .result)) }
 
 returns-2 : tie.Need-returns-2
-returns-2 c = shape-long _ _ (c .before .before .before .length-of .ensures) _ (c .before .place-of .ensures) (c .if2 .taken)
+returns-2 c = shape-long _ _ (c .before .before .before .length-of .ensures) _ (c .before .place-of .ensures) (λ e. omega arith)
 
 returns-3 : tie.Need-returns-3
 returns-3 c = shape-tag _ _ (c .before .before .before .before .before .before .length-of .ensures) _ (c .before .before .before .before .place-of .ensures) _ (c .before .is-tag .ensures) (c .if3 .taken)

@@ -7,9 +7,7 @@ use Rattle.message.proofs.wrap.Statement.{statement}
 use Rattle.message.proofs.wrap.Tie as tie
 
 returns : tie.Need-returns
-returns c =
-    let x = c .before .before .before .before .before .before .args in
-    wrap-refused (now (x .key)) (now (x .header)) (x .tag) (now (x .«data»)) (now (x .buffer)) (x .place) _ (c .before .wrap-number .ensures) (c .if1 .taken)
+returns c = search wrap-refused
 
 sub-write-tag : tie.Need-sub-write-tag
 sub-write-tag c =
@@ -70,10 +68,7 @@ write-code-requires c κs =
     (a .are-given, a .most, code-room (now (x .key)) (now (x .header)) (x .tag) (now (x .«data»)) (now (x .buffer)) (x .place) z (c .before .before .before .before .before .before .before .write-tag .last .0) (c .before .before .before .before .before .before .before .write-tag .ensures) (c .before .before .before .write-data .last .0) (c .before .before .before .write-data .ensures))
 
 returns-2 : tie.Need-returns-2
-returns-2 c =
-    let x = c .before .before .before .before .before .before .before .before .before .before .before .before .before .before .before .before .before .before .args in
-    let z = sym (c .before .before .before .before .before .before .before .before .before .before .before .before .before .wrap-number .ensures) ∙ c .before .before .before .before .before .before .before .before .before .before .before .before .if1 .left in
-    wrap-done (now (x .key)) (now (x .header)) (x .tag) (now (x .«data»)) (now (x .buffer)) (x .place) z (c .before .before .before .before .before .before .before .before .before .before .write-tag .last .0) (c .before .before .before .before .before .before .before .before .before .before .write-tag .ensures) (c .before .before .before .before .before .before .write-data .last .0) (c .before .before .before .before .before .before .write-data .ensures) (c .before .before .write-code .last .0) (c .before .before .write-code .ensures)
+returns-2 c = search (wrap-done, sym, _∙_)
 
 pub wrap-spec : {M : Type 1} → statement M
 wrap-spec =

@@ -2,19 +2,17 @@ use mathlib.Core.Path.{sym, ap, _∙_}
 use denote.Ref.{now}
 use borrow.Author.Tests.{not-false}
 use Rattle.cipher.specs.Answers.{enciphered}
-use Rattle.pin.specs.Answers.{noBlock, written}
+use Rattle.pin.specs.Answers.{written}
 use Rattle.pin.proofs.AnswerLaws.{encipher-no-key, encipher-no-digits, encipher-yes}
 use borrow.Author.Needs.{needs}
 use Rattle.pin.proofs.encipher_pin.Statement.{statement}
 use Rattle.pin.proofs.encipher_pin.Tie as tie
 
 returns : tie.Need-returns
-unfolding noBlock
-returns c = search encipher-no-key
+returns c = c .no-block .ensures ∙ search encipher-no-key
 
 returns-2 : tie.Need-returns-2
-unfolding noBlock
-returns-2 c = search encipher-no-digits
+returns-2 c = c .no-block2 .ensures ∙ search encipher-no-digits
 
 block-of-requires : tie.Need-block-of-requires
 block-of-requires c κs = sym (c .before .pin-fits .ensures) ∙ not-false _ (c .if2 .left)
@@ -30,7 +28,9 @@ pub encipher-pin-spec : {M : Type 1} → statement M
 encipher-pin-spec =
     tie.close
     (tie.spec
+    (λ c κs. search needs)
     returns
+    (λ c κs. search needs)
     (λ c κs. search needs)
     returns-2
     block-of-requires

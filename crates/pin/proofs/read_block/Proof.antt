@@ -1,12 +1,11 @@
-use Rattle.pin.specs.Answers.{noPin}
+use mathlib.Core.Path.{_∙_}
 use Rattle.pin.proofs.AnswerLaws.{block-formed, read-no-format, read-yes}
 use borrow.Author.Needs.{needs}
 use Rattle.pin.proofs.read_block.Statement.{statement}
 use Rattle.pin.proofs.read_block.Tie as tie
 
 returns : tie.Need-returns
-unfolding noPin
-returns c = search read-no-format
+returns c = c .no-pin .ensures ∙ search read-no-format
 
 twelve-requires : tie.Need-twelve-requires
 twelve-requires c κs = block-formed _ _ (c .before .before .split .ensures) _ (c .before .well-formed .ensures) (c .if1 .left) .pin .most
@@ -18,6 +17,7 @@ pub read-block-spec : {M : Type 1} → statement M
 read-block-spec =
     tie.close
     (tie.spec
+    (λ c κs. search needs)
     (λ c κs. search needs)
     (λ c κs. search needs)
     returns

@@ -12,7 +12,7 @@ use lib.ListN.{length, getD, drop, replicate, length-append, length-drop, length
 use lib.Seq.{getD-append-add, getD-drop}
 use Rattle.octets.specs.Digits.{digits}
 use Rattle.octets.proofs.DigitLaws.{digits-at, digits-all}
-use Rattle.octets.proofs.Parts.{elements-all, zeros-at}
+use Rattle.octets.proofs.Parts.{zeros-at}
 use Rattle.blocks.proofs.Laws.{lt-or-ge}
 use Rattle.octets.specs.Digits.{pairs}
 use Rattle.keys.specs.CardNumber.{cardFits, X, sixteen}
@@ -144,10 +144,6 @@ pairs-at base (a ∷ b ∷ s) (suc i) (suc zero) e h = absurd (omega arith)
 pairs-at base (a ∷ b ∷ s) (suc i) (suc (suc j)) e h =
     let z : suc (suc j) + 1 ≡ suc (suc (j + 1)) = omega arith in
     pairs-at base s i j (omega arith) (omega arith) ∙ sym (ap (λ (k : ℕ). base * getD s j 0 + getD (a ∷ b ∷ s) k 0) z)
-
-pub length-pairs : (base : ℕ) (s : List ℕ) → length s ≡ 16 → length (pairs base s) ≡ 8
-unfolding pairs
-length-pairs base s e = ap (λ (l : List ℕ). length (pairs base l)) (elements-all s 16 e)
 
 pub pair-fits : (base a b : ℕ) → base ≤ 16 → a ≤ 9 → b ≤ 9 → (base * a ≤ 144) × (base * a + b ≤ 153)
 pair-fits base a b hb ha h = let m : base * a ≤ 16 * 9 = mul-le-mul hb ha in (omega arith, omega arith)

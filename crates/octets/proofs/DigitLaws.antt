@@ -1,6 +1,7 @@
--- The turns of the loop that looks at digits and fillers; hexadecimal digits. Assumes nothing.
+-- The turns of the loop that looks at digits and fillers; pairs of digits; hexadecimal digits. Assumes nothing.
 use Prim.Native.Nat.{ℕ, zero, suc, _+_, _-_, _≤_, _<_, zero-le, suc-le-suc}
 use native.Mathlib.Nat.{not-suc-le-zero, le-of-suc-le-suc, sub-zero, suc-sub-suc}
+use native.Mathlib.Omega.{arith}
 use native.Mathlib.Numerals.{add-one, sub-one}
 use mathlib.Core.Path.{_≡_, refl, sym, ap, ap₂, _∙_}
 use mathlib.Core.Bool.{true, false, and-eq-true-iff, false≢true}
@@ -9,7 +10,7 @@ use lib.ListN.{length, getD, take, drop, replicate, drop-of-length-le}
 use lib.Seq.{drop-cons}
 use lib.Dec.{leb, eqb, eqb·suc-zero, eqb→eq}
 use borrow.Author.Tests.{eq-eqb, ne-eqb, le-leb, lt-leb, leb-true, eqb-true}
-use Rattle.octets.specs.Digits.{digits, hexDigit, hexValue}
+use Rattle.octets.specs.Digits.{digits, pairs, hexDigit, hexValue}
 use Rattle.octets.proofs.Table.{at}
 
 step-high : (f k x : ℕ) (t : List ℕ) → (k ≡ 0 → ⊥) → 9 < x → digits f k (x ∷ t) ≡ false
@@ -92,3 +93,13 @@ pub hexValue-hexDigit : (n : ℕ) → n < 16 → hexValue (hexDigit n) ≡ n
 unfolding hexValue hexDigit
 hexValue-hexDigit n h =
     eqb→eq (hexValue (hexDigit n)) n (at (λ k x. eqb (hexValue (hexDigit k)) k) (replicate 16 0) tt n h)
+
+-- pairs of digits are half as many
+pub length-pairs : (base : ℕ) (s : List ℕ) (k : ℕ) → length s ≡ k + k → length (pairs base s) ≡ k
+unfolding pairs
+length-pairs base [] k e = let z : 0 ≡ k + k = e in omega arith
+length-pairs base (x ∷ []) k e = let z : 1 ≡ k + k = e in absurd (omega arith)
+length-pairs base (x ∷ y ∷ s) zero e = let z : suc (suc (length s)) ≡ 0 = e in absurd (omega arith)
+length-pairs base (x ∷ y ∷ s) (suc k) e =
+    let z : suc (suc (length s)) ≡ suc k + suc k = e in
+    ap suc (length-pairs base s k (omega arith))

@@ -15,11 +15,12 @@ use Rattle.cipher.specs.Answers.{blockFits, noBlock as none, blockAnswer, encip
 use Rattle.cipher.proofs.AnswerLaws.{fits as block-fits}
 use Rattle.pin.specs.PinBlock.{pinFits, halves, fields, pinBlock, wellFormed, pinOf}
 use Rattle.pin.specs.Answers.{written, noBlock, found, noPin, writePin, readBlock, readPin, encipherPin, decipherPin}
-use Rattle.pin.proofs.BlockLaws.{Fits, fits, Formed, formed, length-fields, length-pairs}
+use Rattle.octets.proofs.DigitLaws.{length-pairs}
+use Rattle.pin.proofs.BlockLaws.{Fits, fits, Formed, formed, length-fields}
 
 pub length-pinBlock : (pin : List ℕ) → Fits 0 (length pin) pin → length (pinBlock pin) ≡ 8
 unfolding pinBlock
-length-pinBlock pin f = length-pairs (fields pin) 8 (length-fields pin (f .most))
+length-pinBlock pin f = length-pairs 16 (fields pin) 8 (length-fields pin (f .most))
 
 -- t is the test of the PIN to be written
 module _ (pin : List ℕ) (t : Bool) (e : t ≡ pinFits 0 (length pin) pin) where

@@ -99,7 +99,7 @@ module _ (pin : List ℕ) where
       ap₂ {C = List ℕ} (λ x y. 2 ∷ length pin ∷ (x ++ y)) (take-all (length pin) pin (omega arith))
       (sym (drop-drop (length pin) 2 (2 ∷ length pin ∷ replicate 14 15)) ∙ drop-replicate (length pin) 14 15)
 
--- an even number of half-bytes is read back from its bytes, which are octets and half as many
+-- an even number of half-bytes is read back from its bytes, which are octets
 pub halves-pairs : (s : List ℕ) (k : ℕ) → length s ≡ k + k → Small s → halves (pairs 16 s) ≡ s
 unfolding halves pairs
 halves-pairs [] k e h = refl
@@ -110,13 +110,6 @@ halves-pairs (x ∷ y ∷ s) (suc k) e h =
     let l : y < 16 = h 1 in
     ap₂ {C = List ℕ} (λ a t. a ∷ t) (omega arith)
     (ap₂ {C = List ℕ} (λ a t. a ∷ t) (omega arith) (halves-pairs s k (omega arith) (λ i. h (suc (suc i)))))
-
-pub length-pairs : (s : List ℕ) (k : ℕ) → length s ≡ k + k → length (pairs 16 s) ≡ k
-unfolding pairs
-length-pairs [] k e = let z : 0 ≡ k + k = e in omega arith
-length-pairs (x ∷ []) k e = let z : 1 ≡ k + k = e in absurd (omega arith)
-length-pairs (x ∷ y ∷ s) zero e = let z : suc (suc (length s)) ≡ 0 = e in absurd (omega arith)
-length-pairs (x ∷ y ∷ s) (suc k) e = let z : suc (suc (length s)) ≡ suc k + suc k = e in ap suc (length-pairs s k (omega arith))
 
 pub octets-pairs : (s : List ℕ) → Small s → Octets (pairs 16 s)
 unfolding pairs

@@ -5,7 +5,8 @@ use Rattle.octets.specs.Digits.{digits}
 use Rattle.derive.specs.Answers.{noKey, derivation}
 use Rattle.octets.specs.Digits.{pairs}
 use Rattle.keys.specs.CardNumber.{X, sixteen}
-use Rattle.keys.proofs.CardLaws.{fits, sixteen-digits, length-sixteen, length-pairs}
+use Rattle.octets.proofs.DigitLaws.{length-pairs}
+use Rattle.keys.proofs.CardLaws.{fits, sixteen-digits, length-sixteen}
 use Rattle.keys.proofs.AnswerLaws.{card-no-key, card-no-card, card-yes}
 use borrow.Author.Needs.{needs}
 use Rattle.keys.proofs.card_key_by.Statement.{statement}
@@ -36,7 +37,7 @@ returns-3 c =
     let s = sixteen (X (now (x .pan)) (x .sequence)) in
     let y : c .before .before .pair-up .result ≡ pairs (x .base) s = c .before .before .pair-up .ensures ∙ ap (pairs (x .base)) (c .before .before .before .sixteen .ensures) in
     c .derive .ensures ∙ ap (derivation (now (x .key))) y
-    ∙ card-yes (now (x .key)) (now (x .pan)) (x .sequence) (pairs (x .base) s) (c .before .before .before .before .before .before .if1 .left) (c .before .before .before .before .before .card-fits .result) (c .before .before .before .before .before .card-fits .ensures) (c .before .before .before .before .if2 .left) (length-pairs (x .base) s (length-sixteen (X (now (x .pan)) (x .sequence))))
+    ∙ card-yes (now (x .key)) (now (x .pan)) (x .sequence) (pairs (x .base) s) (c .before .before .before .before .before .before .if1 .left) (c .before .before .before .before .before .card-fits .result) (c .before .before .before .before .before .card-fits .ensures) (c .before .before .before .before .if2 .left) (length-pairs (x .base) s 8 (length-sixteen (X (now (x .pan)) (x .sequence))))
 
 pub card-key-by-spec : {M : Type 1} → statement M
 card-key-by-spec =

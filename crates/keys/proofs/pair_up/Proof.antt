@@ -8,7 +8,8 @@ use lib.Seq.{paste, paste-zero}
 use Rattle.octets.proofs.Parts.{made-turn, made-end}
 use Rattle.octets.proofs.DigitLaws.{digits-at}
 use Rattle.octets.specs.Digits.{pairs}
-use Rattle.keys.proofs.CardLaws.{pairs-at, length-pairs, pair-fits}
+use Rattle.octets.proofs.DigitLaws.{length-pairs}
+use Rattle.keys.proofs.CardLaws.{pairs-at, pair-fits}
 use Rattle.keys.proofs.pair_up.Statement.{statement}
 use Rattle.keys.proofs.pair_up.Tie as tie
 
@@ -41,7 +42,7 @@ loop-again c =
     let x = c .before .before .args in
     let l = c .before .loop in
     let n : length (x .t2) ≡ 16 = search needs in
-    let m : length (pairs (x .base) (x .t2)) ≡ 8 = length-pairs (x .base) (x .t2) n in
+    let m : length (pairs (x .base) (x .t2)) ≡ 8 = length-pairs (x .base) (x .t2) 8 n in
     let v = x .base * getD (x .t2) (2 * l .i) 0 + getD (x .t2) (2 * l .i + 1) 0 in (
       omega arith,
       ap (λ (s : List ℕ). set s (l .i) v) (l .inv .1)
@@ -54,7 +55,7 @@ returns c =
     let l = c .before .loop in
     let n : length (x .t2) ≡ 16 = search needs in
     let e : l .i ≡ 8 = omega arith in
-    l .inv .1 ∙ ap (paste (replicate 8 0) 0 (pairs (x .base) (x .t2))) e ∙ made-end (replicate 8 0) (pairs (x .base) (x .t2)) 8 refl (length-pairs (x .base) (x .t2) n)
+    l .inv .1 ∙ ap (paste (replicate 8 0) 0 (pairs (x .base) (x .t2))) e ∙ made-end (replicate 8 0) (pairs (x .base) (x .t2)) 8 refl (length-pairs (x .base) (x .t2) 8 n)
 
 pub pair-up-spec : {M : Type 1} → statement M
 pair-up-spec =

@@ -4,3 +4,5 @@ pub mod Keeps
 pub mod Ledger
 pub mod Counts
 pub mod Strike
+pub mod Papers
+pub mod PTable

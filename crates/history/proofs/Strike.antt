@@ -189,7 +189,7 @@ strike-by test ok r a b d ps fresh n =
       the-answers =
           history-append r a _
           ∙ ap (λ (t : History). history r a ++ t)
-            (history-append r₀ (callsOf y) _ ∙ ap₂ {C = History} (λ u v. u ++ v) (f .0) (ap (λ (x : Reply). entry Withdraw x ∷ history (x .card) d) w ∙ ap (λ (x : Card). history x (Withdraw ∷ d)) e));
+          (history-append r₀ (callsOf y) _ ∙ ap₂ {C = History} (λ u v. u ++ v) (f .0) (ap (λ (x : Reply). entry Withdraw x ∷ history (x .card) d) w ∙ ap (λ (x : Card). history x (Withdraw ∷ d)) e));
       all-answers = history-append r a _ ∙ ap (λ (t : History). history r a ++ t) (history-append r₀ b _ ∙ ap (λ (x : Card). history r₀ b ++ history x (Withdraw ∷ d)) e);
     }
 

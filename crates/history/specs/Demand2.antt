@@ -1,25 +1,73 @@
--- Demand 2. "A message is accepted exactly when the record is sound and its phase, header, shape, instruction, counter, code and PIN format
--- all pass. Opening what we wrapped returns its data; wrapping what we opened returns its bytes." Assumes nothing.
-use Prim.Native.Nat.{ℕ, _+_}
+-- Demand 2. Assumes nothing.
+use Prim.Native.Nat.{ℕ, _+_, _≤_}
 use mathlib.Core.Path.{_≡_}
 use mathlib.Core.Bool.{true}
 use mathlib.Core.Logic.{_↔_}
 use mathlib.Core.List.{List}
-use lib.ListN.{length}
+use lib.ListN.{length, take, drop}
+use Rattle.cipher.specs.Gost.{subkeys, encipher}
+use Rattle.hash.specs.Hash.{hash256}
+use Rattle.derive.specs.Derivation.{derived, cardLabel}
+use Rattle.keys.specs.Seeds.{sessionSeed}
+use Rattle.pin.specs.CounterBlock.{counterBlock}
+use Rattle.cryptogram.specs.Cryptogram.{cryptogramOf, arpcOf}
+use Rattle.cryptogram.specs.Answers.{kindNumber}
+use Rattle.message.specs.declared.Opened.the-variants.{Data}
 use Rattle.message.specs.declared.command.Command.{Command}
 use Rattle.message.specs.declared.command.Listed.the-variants.{One}
-use Rattle.message.specs.Length.{lengthOf}
-use Rattle.message.specs.Shape.{tagOf} 
-use Rattle.message.specs.Shape.{shape as hasShape}
+use Rattle.message.specs.Length.{lengthOf, placeOf}
+use Rattle.message.specs.Shape.{tagOf, sizeOf, shape as hasShape}
 use Rattle.message.specs.Code.{codeFits}
+use Rattle.message.specs.Answers.{opened, laid, wrapped}
 use Rattle.message.specs.Command.{commandOf}
 use Rattle.card.specs.declared.Card.{Card}
 use Rattle.card.specs.Record.{isOpen, sound as isSound}
-use Rattle.card.specs.Keys.{smiKey}
-use Rattle.card.specs.Calls.{Order, orderOf, formatFits, pinIn, Script}
+use Rattle.card.specs.Keys.{smiKey, smcKey}
+use Rattle.card.specs.Calls.{Order, orderOf, formatFits, pinIn, kindFor, isArqc, Open, IssuerAnswer, Script, Counters}
 use Rattle.history.specs.Run.{box}
 
--- the eight checks
+-- "Keys, cryptograms, PIN blocks, counter blocks and script messages are those of R 1323565.1.008, 009 and 010 as 01 reads them." Of the crates
+-- below, each contract says so; of the card, for a record whose keys have the 32 bytes of their type:
+-- the session key for cryptograms at a transaction counter
+abbrev pub cryptogramKey : Card → ℕ → List ℕ
+cryptogramKey r atc = derived (r .ac) cardLabel (sessionSeed atc)
+
+-- an accepted Open gives the kind and the cryptogram of the data at the new counter
+pub record Cryptogram (r : Card) (d : List ℕ) : Type 0 where
+  pub kind : box r (Open d) .kind ≡ kindNumber (kindFor (r .mark))
+  pub bytes : box r (Open d) .bytes ≡ cryptogramOf (subkeys 8 (cryptogramKey r (r .atc + 1))) (kindFor (r .mark)) (r .atc + 1) d
+
+abbrev pub CryptogramLaw : Type 0
+CryptogramLaw = (r : Card) (d : List ℕ) → length (r .ac) ≡ 32 → box r (Open d) .code ≡ 0 → Cryptogram r d
+
+-- an issuer's answer is accepted exactly when it is the ARPC of the transaction's ARQC
+pub record Answers (r : Card) (arpc csu : List ℕ) : Type 0 where
+  pub sound : isSound r ≡ true
+  pub phase : isArqc (r .transaction .phase) ≡ true
+  pub arpc-length : length arpc ≡ 8
+  pub csu-length : length csu ≡ 4
+  pub matches : arpc ≡ arpcOf (subkeys 8 (cryptogramKey r (r .atc))) (r .transaction .cryptogram) csu
+
+abbrev pub AnswerLaw : Type 0
+AnswerLaw =
+    (r : Card) (arpc csu : List ℕ) → length (r .ac) ≡ 32 → length (r .transaction .cryptogram) ≡ 8
+    → (box r (IssuerAnswer arpc csu) .code ≡ 0) ↔ Answers r arpc csu
+
+-- accepted Counters give the counter block under the counter key
+abbrev pub CountersLaw : Type 0
+CountersLaw =
+    (r : Card) → length (r .ac) ≡ 32 → box r Counters .code ≡ 0 → box r Counters .bytes ≡ encipher (hash256 (cryptogramKey r (r .atc))) (counterBlock (r .counters))
+
+-- the session keys of a script come from the transaction's cryptogram
+pub record ScriptKeys (r : Card) : Type 0 where
+  pub smi : smiKey r ≡ derived (r .smi) cardLabel (r .transaction .cryptogram)
+  pub smc : smcKey r ≡ derived (r .smc) cardLabel (r .transaction .cryptogram)
+
+abbrev pub ScriptKeysLaw : Type 0
+ScriptKeysLaw = (r : Card) → length (r .smi) ≡ 32 → length (r .smc) ≡ 32 → length (r .transaction .cryptogram) ≡ 8 → ScriptKeys r
+
+-- "A message is accepted exactly when the record is sound and its phase, header, shape, instruction, counter, code and PIN format all pass."
+-- The eight checks:
 pub record Accepts (r : Card) (h m : List ℕ) : Type 0 where
   pub sound : isSound r ≡ true
   pub phase : isOpen (r .transaction .phase) ≡ true
@@ -35,6 +83,17 @@ pub record Accepts (r : Card) (h m : List ℕ) : Type 0 where
 abbrev pub ordered : {r : Card} {h m : List ℕ} → Accepts r h m → Order
 ordered {r} {h} {m} a = orderOf (a .command) (pinIn r m)
 
--- "A message is accepted exactly when .."
 abbrev pub AcceptedExactly : Type 0
 AcceptedExactly = (r : Card) (h m : List ℕ) → (box r (Script h m) .code ≡ 0) ↔ Accepts r h m
+
+-- "Opening what we wrapped returns its data; wrapping what we opened returns its bytes."
+abbrev pub OpenWrapped : Type 0
+OpenWrapped =
+    (key header : List ℕ) (tag : ℕ) (d b : List ℕ) (place : ℕ) → wrapped key header tag d b place .code ≡ 0
+    → let m = take (sizeOf (length d)) (drop place (wrapped key header tag d b place .buffer)) in
+    (opened key header m ≡ Data tag (placeOf (length d)) (length d)) × (take (length d) (drop (placeOf (length d)) m) ≡ d)
+
+abbrev pub WrapOpened : Type 0
+WrapOpened =
+    (key header m : List ℕ) (tag place n : ℕ) → opened key header m ≡ Data tag place n
+    → (b : List ℕ) (p : ℕ) → p + length m ≤ length b → wrapped key header tag (take n (drop place m)) b p ≡ record { code = 0; buffer = laid b p m }

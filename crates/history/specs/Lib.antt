@@ -2,3 +2,4 @@ pub mod Run
 pub mod Demand2
 pub mod Decides
 pub mod Demand3
+pub mod Examples

@@ -7,6 +7,15 @@ use Rattle.card.specs.declared.Card.{Card}
 use Rattle.card.specs.declared.Reply.{Reply}
 use Rattle.card.specs.Calls.{Call, Open, IssuerAnswer, Script, Close, Withdraw, Counters, step}
 
+-- a call's frame in the clerk's trace
+abbrev pub frame : Call → ℕ
+frame (Open d) = 1
+frame (IssuerAnswer arpc csu) = 2
+frame (Script h m) = 3
+frame Close = 4
+frame Withdraw = 5
+frame Counters = 6
+
 -- the box under the demands: what the card's functions are proved to answer
 abbrev pub box : Card → Call → Reply
 box r c = step r c
@@ -36,15 +45,6 @@ callOf (did c n k b) = c
 abbrev pub callsOf : History → List Call
 callsOf [] = []
 callsOf (e ∷ t) = callOf e ∷ callsOf t
-
--- a call's frame in the clerk's trace
-abbrev pub frame : Call → ℕ
-frame (Open d) = 1
-frame (IssuerAnswer arpc csu) = 2
-frame (Script h m) = 3
-frame Close = 4
-frame Withdraw = 5
-frame Counters = 6
 
 -- a call of some frame that was answered with some number
 abbrev pub was : ℕ → ℕ → Entry → Bool

@@ -1,5 +1,6 @@
 //! The second program: the rules of the box written once more from the papers, to compare the first program with.
 
+mod calls;
 mod card;
 mod cipher;
 mod cryptogram;
@@ -12,15 +13,19 @@ mod octets;
 mod pin;
 #[cfg(test)]
 mod published;
+mod random;
 mod refusal;
 mod trace;
 mod vectors;
 
+use std::collections::BTreeMap;
 use std::io::{self, BufRead, Write};
 use std::process::ExitCode;
 
 const USAGE: &str = "usage: second trace             a clerk's trace, standard input to standard output
-       second vectors           published vectors as lines, standard input to standard output";
+       second vectors           published vectors as lines, standard input to standard output
+       second calls SEED N      N random calls of the library for C, with what must come of each
+       second check             checks such lines, ours or a judge's, on standard input";
 
 fn main() -> ExitCode {
     let words: Vec<String> = std::env::args().skip(1).collect();
@@ -28,6 +33,8 @@ fn main() -> ExitCode {
     let result = match words[..] {
         ["trace"] => run_trace(),
         ["vectors"] => run_vectors(),
+        ["calls", seed, count] => write_calls(number(seed), number(count)),
+        ["check"] => check_calls(),
         _ => {
             eprintln!("{USAGE}");
             return ExitCode::from(2);
@@ -51,4 +58,38 @@ fn run_vectors() -> io::Result<ExitCode> {
         writeln!(output, "{}", vectors::answer(&line?))?;
     }
     Ok(ExitCode::SUCCESS)
+}
+
+/// A number among the words.
+fn number(word: &str) -> u64 {
+    word.parse().unwrap_or_else(|_| {
+        eprintln!("second: not a number: {word}");
+        std::process::exit(2)
+    })
+}
+
+fn write_calls(seed: u64, count: u64) -> io::Result<ExitCode> {
+    let mut output = io::BufWriter::new(io::stdout().lock());
+    let mut caller = calls::Caller::new(seed);
+    for i in 0..count as usize {
+        writeln!(output, "{}", caller.call(i))?;
+    }
+    output.flush()?;
+    Ok(ExitCode::SUCCESS)
+}
+
+fn check_calls() -> io::Result<ExitCode> {
+    let mut counts = BTreeMap::new();
+    for line in io::stdin().lock().lines() {
+        match calls::check(&line?) {
+            Ok(name) => *counts.entry(name).or_insert(0) += 1,
+            Err(difference) => {
+                println!("second: a difference\n{difference}");
+                return Ok(ExitCode::FAILURE);
+            }
+        }
+    }
+    let counts: Vec<String> = counts.iter().map(|(name, count)| format!("{name} {count}")).collect();
+    println!("second agrees: {}", counts.join(", "));
+    Ok(if counts.is_empty() { ExitCode::FAILURE } else { ExitCode::SUCCESS })
 }

@@ -15,12 +15,12 @@ use crate::pin;
 use crate::random::Random;
 use crate::refusal::{number_of, Refusal};
 
-/// An argument; a string without a pointer is null.
+/// An argument; a string or an output without a pointer is null.
 #[derive(Clone)]
 pub enum Argument {
     Text(Option<Vec<u8>>),
     Number(u64),
-    Lent(Vec<u8>),
+    Lent(Option<Vec<u8>>),
 }
 use Argument::{Lent, Number, Text};
 
@@ -141,7 +141,7 @@ fn wrap_into(given: &Given, buffer: &mut [u8]) -> Result<(), Refusal> {
 /// The number of a call, and the lent bytes after it: on a refusal as before.
 fn outcome(name: &str, arguments: &[Argument]) -> (u8, Vec<u8>) {
     let lent = arguments.iter().find_map(|argument| match argument {
-        Lent(bytes) => Some(bytes.clone()),
+        Lent(bytes) => Some(bytes.clone().unwrap_or_default()),
         _ => None,
     });
     let mut lent = lent.expect("every function has an output");
@@ -156,11 +156,11 @@ fn outcome(name: &str, arguments: &[Argument]) -> (u8, Vec<u8>) {
     }
 }
 
-fn word_of(bytes: &[u8]) -> String {
-    if bytes.is_empty() {
-        "-".to_string()
-    } else {
-        to_hex(bytes)
+fn word_of(bytes: Option<&[u8]>) -> String {
+    match bytes {
+        None => "null".to_string(),
+        Some([]) => "-".to_string(),
+        Some(bytes) => to_hex(bytes),
     }
 }
 
@@ -170,10 +170,9 @@ fn line(function: &Function, arguments: &[Argument]) -> String {
     let words: Vec<String> = arguments
         .iter()
         .map(|argument| match argument {
-            Text(None) => "null".to_string(),
-            Text(Some(bytes)) => word_of(bytes),
+            Text(bytes) => word_of(bytes.as_deref()),
             Number(number) => format!("{number:x}"),
-            Lent(before) => format!("{} {}", word_of(before), word_of(&after)),
+            Lent(before) => format!("{} {}", word_of(before.as_deref()), word_of(Some(&after))),
         })
         .collect();
     format!("{} {number} {}", function.name, words.join(" "))
@@ -198,10 +197,13 @@ pub fn check(text: &str) -> Result<&'static str, String> {
 
 fn read<'a>(letter: char, words: &mut impl Iterator<Item = &'a str>) -> Option<Argument> {
     let word = words.next()?;
-    let bytes = |word: &str| if word == "-" { Some(vec![]) } else { from_hex(word.as_bytes()) };
+    let bytes = |word: &str| match word {
+        "null" => Some(None),
+        "-" => Some(Some(vec![])),
+        _ => from_hex(word.as_bytes()).map(Some),
+    };
     match letter {
-        's' if word == "null" => Some(Text(None)),
-        's' => Some(Text(Some(bytes(word)?))),
+        's' => Some(Text(bytes(word)?)),
         'o' => {
             words.next()?;
             Some(Lent(bytes(word)?))
@@ -266,12 +268,16 @@ impl Caller {
         }
     }
 
-    /// A string as it is; an empty one with a pointer or null.
-    fn given(&mut self, bytes: Vec<u8>) -> Argument {
+    /// An empty string may be null.
+    fn pointed(&mut self, bytes: Vec<u8>) -> Option<Vec<u8>> {
         if bytes.is_empty() && self.random.once_in(2) {
-            return Text(None);
+            return None;
         }
-        Text(Some(bytes))
+        Some(bytes)
+    }
+
+    fn given(&mut self, bytes: Vec<u8>) -> Argument {
+        Text(self.pointed(bytes))
     }
 
     fn text(&mut self, right: usize) -> Argument {
@@ -282,7 +288,8 @@ impl Caller {
 
     fn lent(&mut self, right: usize) -> Argument {
         let length = self.length(right);
-        Lent(self.random.bytes(length))
+        let bytes = self.random.bytes(length);
+        Lent(self.pointed(bytes))
     }
 
     fn counter(&mut self) -> Argument {
@@ -371,7 +378,8 @@ impl Caller {
         let place = if self.random.once_in(4) { self.random.choose(&far) } else { place };
         let (key, header) = (self.text(32), self.text(4));
         let tag = Number(self.tag().into());
-        vec![key, header, tag, self.given(data), Lent(self.random.bytes(buffer)), Number(place)]
+        let buffer = self.random.bytes(buffer);
+        vec![key, header, tag, self.given(data), Lent(self.pointed(buffer)), Number(place)]
     }
 
     /// A wrapped message, mostly whole; else with a byte changed, cut, lengthened, or any bytes at all.

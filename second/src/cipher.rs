@@ -76,11 +76,12 @@ pub fn decipher(key: &Key, block: &Block) -> Block {
 /// The 32-bit authentication code (RFC 5830, clause 8) of one or more whole blocks: each is added to the state, which then goes through
 /// the first 16 rounds; the code is N1. Nothing is appended to a single block.
 pub fn code(key: &Key, string: &[u8]) -> Result<[u8; 4], Refusal> {
-    if string.is_empty() || string.len() % 8 != 0 {
+    let blocks = string.chunks_exact(8);
+    if string.is_empty() || !blocks.remainder().is_empty() {
         return Err(Refusal::Range);
     }
     let x = subkeys(key);
-    let end = string.chunks(8).fold(Halves { n1: 0, n2: 0 }, |state, block| {
+    let end = blocks.fold(Halves { n1: 0, n2: 0 }, |state, block| {
         let sum = Halves { n1: state.n1 ^ word(&block[..4]), n2: state.n2 ^ word(&block[4..]) };
         (0..16).map(|i| x[i % 8]).fold(sum, round)
     });

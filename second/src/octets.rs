@@ -20,7 +20,7 @@ pub fn digit(sign: u8) -> Option<u8> {
 
 /// The bytes that an even number of digits writes.
 pub fn from_hex(digits: &[u8]) -> Option<Vec<u8>> {
-    if digits.len() % 2 != 0 {
+    if digits.len() % 2 == 1 {
         return None;
     }
     digits.chunks(2).map(|pair| Some(digit(pair[0])? << 4 | digit(pair[1])?)).collect()

@@ -338,7 +338,7 @@ impl Caller {
         Number(self.random.choose(&[0x80, 0x40, 0x00, 0x80, 0x40, 0x00, other, 0xc0]).into())
     }
 
-    /// A good block, one with a half-byte changed, or any.
+    /// A good block, one with a half-byte changed, one of a wrong count, or any.
     fn pin_block(&mut self) -> Argument {
         let count = self.random.within(4, 12);
         let mut block = pin::write(&self.random.digits(count)).expect("digits").to_vec();
@@ -348,6 +348,10 @@ impl Caller {
                 block[place / 2] ^= (self.random.within(1, 15) << (4 * (1 - place % 2))) as u8;
             }
             1 if self.random.once_in(4) => block = self.random.bytes(8),
+            1 if self.random.once_in(2) => {
+                let count = self.random.choose(&[0, 3, 13, 14]);
+                block = pin::written(count as u8, &self.random.digits(count)).to_vec();
+            }
             _ => {}
         }
         let length = self.length(8);

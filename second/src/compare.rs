@@ -306,9 +306,7 @@ pub fn compare(peer: &Peer, from: u64, count: u64) -> io::Result<bool> {
     let took = begun.elapsed();
     let mut tally = Tally::default();
     (from..from + count).for_each(|seed| tally.count(&generate::trace(seed)));
-    print!("{}", tally.report());
-    let missing = tally.missing();
-    missing.iter().for_each(|what| println!("never reached: {what}"));
+    let all_reached = tally.print();
     let in_parts = jobs.iter().filter(|job| matches!(job.feed, Feed::Parts(_))).count();
     let by_line = jobs.iter().filter(|job| job.feed == Feed::LineByLine).count();
     println!(
@@ -317,5 +315,5 @@ pub fn compare(peer: &Peer, from: u64, count: u64) -> io::Result<bool> {
         jobs.len(),
         took.as_secs()
     );
-    Ok(missing.is_empty())
+    Ok(all_reached)
 }

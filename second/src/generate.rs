@@ -186,19 +186,27 @@ impl Clerk {
         pin::write(&self.random.digits(count)).expect("digits")
     }
 
-    /// A block with one half-byte that it must not have, or any bytes.
+    /// A block with one half-byte that it must not have, one of too few or too many digits, or any bytes.
     fn bad_pin_block(&mut self) -> [u8; 8] {
         loop {
             let mut block = self.good_pin_block();
             let place = self.random.choose(&[0, 1, 1, 1, 2, 5, 6, 13, 14, 15]);
             block[place / 2] ^= (self.random.within(1, 15) << (4 * (1 - place % 2))) as u8;
-            if self.random.once_in(10) {
-                block = self.random.array();
+            match self.random.below(10) {
+                0 => block = self.random.array(),
+                1..=3 => block = self.block_of_wrong_count(),
+                _ => {}
             }
             if pin::read(&block).is_err() {
                 return block;
             }
         }
+    }
+
+    /// Written by the rule, but for fewer than 4 digits or more than 12.
+    fn block_of_wrong_count(&mut self) -> [u8; 8] {
+        let count = self.random.choose(&[0, 1, 2, 3, 3, 13, 13, 14]);
+        pin::written(count as u8, &self.random.digits(count))
     }
 
     fn personalise_with(&mut self, mark: u8, block: [u8; 8]) -> Vec<u8> {
@@ -428,10 +436,15 @@ impl Clerk {
         line
     }
 
-    /// One of the signs in the place of a digit.
+    /// One of the signs in the place of a digit, or beside the digits: a reader that skips it would see a good line.
     fn put(&mut self, line: &mut Line, signs: &[u8]) {
+        let sign = self.random.choose(signs);
         let place = self.random.choose(&[0, 1, line.len() - 1, line.len() / 2]);
-        line[place] = self.random.choose(signs);
+        match self.random.below(4) {
+            0 => line.insert(place, sign),
+            1 => line.splice(place..place, [sign, sign]).for_each(drop),
+            _ => line[place] = sign,
+        }
     }
 
     /// A capital in the place of its small letter, or of another digit.

@@ -126,8 +126,5 @@ fn check_calls() -> io::Result<ExitCode> {
 fn count_answers(from: u64, to: u64) -> io::Result<ExitCode> {
     let mut tally = tally::Tally::default();
     (from..=to).for_each(|seed| tally.count(&generate::trace(seed)));
-    print!("{}", tally.report());
-    let missing = tally.missing();
-    missing.iter().for_each(|what| println!("never reached: {what}"));
-    Ok(if missing.is_empty() { ExitCode::SUCCESS } else { ExitCode::FAILURE })
+    Ok(if tally.print() { ExitCode::SUCCESS } else { ExitCode::FAILURE })
 }

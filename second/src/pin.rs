@@ -40,11 +40,16 @@ fn joined(halves: [u8; 16]) -> [u8; 8] {
 /// 2, the number of digits, the digits, f to the end.
 pub fn write(digits: &[u8]) -> Result<[u8; 8], Refusal> {
     let pin = Pin::of_digits(digits)?;
+    Ok(written(pin.count, digits))
+}
+
+/// The block of up to 14 digits, as it would be written of any count.
+pub fn written(count: u8, digits: &[u8]) -> [u8; 8] {
     let mut halves = [15; 16];
     halves[0] = 2;
-    halves[1] = pin.count;
+    halves[1] = count;
     halves[2..2 + digits.len()].copy_from_slice(digits);
-    Ok(joined(halves))
+    joined(halves)
 }
 
 /// The PIN of a block. The filler is not free: each half-byte after the digits is f.

@@ -288,15 +288,23 @@ impl Tally {
     }
 
     /// What was named and never reached.
-    pub fn missing(&self) -> Vec<String> {
+    fn missing(&self) -> Vec<String> {
         let numbers = NAMED.iter().flat_map(|(first, numbers)| numbers.iter().map(move |&number| (format!("{first:02x}"), number)));
         let unreached = numbers.filter(|key| !self.numbers.contains_key(key)).map(|(row, number)| format!("frame {row} number {number}"));
         let causes = CAUSES.iter().filter(|cause| !self.causes.contains_key(**cause)).map(|cause| cause.to_string());
         unreached.chain(causes).collect()
     }
 
+    /// Prints what was reached; true where nothing that is named is missing.
+    pub fn print(&self) -> bool {
+        print!("{}", self.report());
+        let missing = self.missing();
+        missing.iter().for_each(|what| println!("never reached: {what}"));
+        missing.is_empty()
+    }
+
     /// The table of frames and numbers, and the causes beneath it.
-    pub fn report(&self) -> String {
+    fn report(&self) -> String {
         let rows: BTreeSet<&String> = self.numbers.keys().map(|(row, _)| row).collect();
         let mut text = String::from("frame ");
         (0..=13).for_each(|number| write!(text, "{number:>7}").expect("memory"));

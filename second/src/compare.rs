@@ -5,7 +5,7 @@
 
 use std::io::{self, BufRead, BufReader, Read, Write};
 use std::process::{Child, ChildStdin, Command, Stdio};
-use std::sync::atomic::{AtomicUsize, Ordering};
+use std::sync::atomic::{AtomicBool, AtomicUsize, Ordering};
 use std::sync::mpsc::{channel, Receiver};
 use std::sync::Mutex;
 use std::thread;
@@ -98,17 +98,55 @@ impl Peer<'_> {
     }
 }
 
+/// What has come back so far.
+#[derive(Default)]
+struct Progress {
+    answers: AtomicUsize,
+    ended: AtomicBool,
+}
+
+impl Progress {
+    /// Waits for so many answers; false where they do not come.
+    fn reach(&self, answers: usize) -> bool {
+        let until = Instant::now() + PATIENCE / 4;
+        while self.answers.load(Ordering::SeqCst) < answers {
+            if self.ended.load(Ordering::SeqCst) || Instant::now() > until {
+                return false;
+            }
+            thread::sleep(Duration::from_micros(100));
+        }
+        true
+    }
+
+    fn read_all(&self, mut stdout: impl Read) -> io::Result<Vec<u8>> {
+        let mut output = vec![];
+        let mut part = [0; 65536];
+        loop {
+            let count = stdout.read(&mut part)?;
+            if count == 0 {
+                self.ended.store(true, Ordering::SeqCst);
+                return Ok(output);
+            }
+            self.answers.fetch_add(line_feeds(&part[..count]), Ordering::SeqCst);
+            output.extend(&part[..count]);
+        }
+    }
+}
+
+fn line_feeds(bytes: &[u8]) -> usize {
+    bytes.iter().filter(|&&byte| byte == b'\n').count()
+}
+
 /// Writes on one thread and reads on this one, so that neither waits for the other.
-fn at_its_pace(input: &[u8], feed: Feed, stdin: ChildStdin, mut stdout: impl Read) -> io::Result<Vec<u8>> {
-    let mut output = vec![];
+fn at_its_pace(input: &[u8], feed: Feed, stdin: ChildStdin, stdout: impl Read) -> io::Result<Vec<u8>> {
+    let progress = &Progress::default();
     thread::scope(|scope| {
         scope.spawn(move || match feed {
-            Feed::Parts(seed) => in_parts(input, stdin, seed),
+            Feed::Parts(seed) => in_parts(input, stdin, seed, progress),
             _ => at_once(input, stdin),
         });
-        stdout.read_to_end(&mut output)
-    })?;
-    Ok(output)
+        progress.read_all(stdout)
+    })
 }
 
 /// A peer that ends early shows in its answers.
@@ -116,20 +154,24 @@ fn at_once(input: &[u8], mut stdin: ChildStdin) {
     let _ = stdin.write_all(input);
 }
 
-/// Short parts, with rests at first so that the reader sees them as they are.
-fn in_parts(mut input: &[u8], mut stdin: ChildStdin, seed: u64) {
+/// Short parts. The first one is a line, whose answer shows that the peer has started; then each of the next ones waits for the answers to
+/// what came before, so that the peer waits for it too and reads it as it is.
+fn in_parts(mut input: &[u8], mut stdin: ChildStdin, seed: u64, progress: &Progress) {
     let mut random = Random::new(seed);
-    let mut rests = 200;
+    let mut length = input.iter().position(|&byte| byte == b'\n').map_or(input.len(), |end| end + 1);
+    let mut lines = 0;
+    let mut waits = 80;
     while !input.is_empty() {
-        let length = random.choose(&[1, 1, 2, 3, 16, 50, 139, 280, 281, 1000, 4096, 5000]).min(input.len());
-        let (part, rest) = input.split_at(length);
+        let (part, rest) = input.split_at(length.min(input.len()));
         if stdin.write_all(part).and_then(|()| stdin.flush()).is_err() {
             return;
         }
         input = rest;
-        if rests > 0 {
-            thread::sleep(Duration::from_micros(50));
-            rests -= 1;
+        length = random.choose(&[1, 1, 2, 3, 16, 50, 139, 280, 281, 1000, 4096, 5000]);
+        lines += line_feeds(part);
+        if waits > 0 {
+            waits = if progress.reach(lines) { waits - 1 } else { 0 };
+            thread::sleep(Duration::from_micros(100));
         }
     }
 }

@@ -1,0 +1,486 @@
+//! Traces made from a seed, valid and damaged: over many seeds every answer of every frame is reached. The generator answers each line
+//! itself, so that it has the keys and the cryptogram for the next one.
+
+use crate::card::{Phase, Record};
+use crate::cipher::encipher;
+use crate::cryptogram::arpc;
+use crate::keys::{script_key, session_key};
+use crate::message::{wrapped, Command, CLEAR, ENCIPHERED, LARGEST};
+use crate::octets::{to_hex, Key};
+use crate::pin;
+use crate::random::Random;
+use crate::trace::Run;
+
+type Line = Vec<u8>;
+
+/// The trace of a seed.
+pub fn trace(seed: u64) -> Vec<u8> {
+    let mut clerk = Clerk::new(seed);
+    let length = clerk.random.within(15, 85);
+    if clerk.random.once_in(3) {
+        for _ in 0..clerk.random.within(1, 4) {
+            let line = clerk.early();
+            clerk.say(line);
+        }
+    }
+    if !clerk.random.once_in(50) {
+        let line = clerk.personalise();
+        clerk.say(line);
+    }
+    while clerk.lines.len() < length {
+        let line = clerk.next();
+        clerk.say(line);
+    }
+    clerk.end()
+}
+
+struct Clerk {
+    random: Random,
+    run: Run,
+    lines: Vec<Line>,
+    /// Once in so many times a line is damaged.
+    damage: usize,
+    /// A script of an earlier transaction.
+    old_script: Option<Line>,
+}
+
+fn frame(first: u8, rest: &[u8]) -> Line {
+    format!("{first:02x}{}", to_hex(rest)).into_bytes()
+}
+
+fn script(header: &[u8], message: &[u8]) -> Line {
+    frame(3, &[header, message].concat())
+}
+
+impl Clerk {
+    fn new(seed: u64) -> Clerk {
+        let mut random = Random::new(seed);
+        let damage = random.choose(&[1000, 40, 20, 10, 5]);
+        Clerk { random, run: Run::default(), lines: vec![], damage, old_script: None }
+    }
+
+    fn say(&mut self, line: Line) {
+        // what is accepted or refused shows in the record
+        let _ = self.run.answer(&line);
+        self.lines.push(line);
+    }
+
+    /// Lines ended by line feeds; at times the last one is torn, or lacks only its line feed.
+    fn end(mut self) -> Vec<u8> {
+        let torn = self.random.below(6);
+        let mut trace = self.lines.join(&b'\n');
+        let last = self.lines.last().map_or(0, Vec::len);
+        match torn {
+            0 => trace.truncate(trace.len() - self.random.below(last + 1)),
+            1 => {}
+            _ => trace.push(b'\n'),
+        }
+        trace
+    }
+
+    fn next(&mut self) -> Line {
+        if self.random.once_in(self.damage) {
+            return self.unreadable();
+        }
+        match self.run.record.as_ref().map(|record| record.phase) {
+            None if self.random.once_in(4) => self.personalise(),
+            None => self.early(),
+            Some(Phase::None) => self.between(),
+            Some(_) => self.inside(),
+        }
+    }
+
+    fn record(&self) -> &Record {
+        self.run.record.as_ref().expect("a record")
+    }
+
+    /// Before a record: any frame of any length.
+    fn early(&mut self) -> Line {
+        match self.random.below(6) {
+            0 => self.unreadable(),
+            1 => self.spoilt_personalise(),
+            _ => self.any_frame(1),
+        }
+    }
+
+    /// With no transaction open. A card at the end of its counters is mostly personalised anew.
+    fn between(&mut self) -> Line {
+        let record = self.record();
+        let spent = record.transaction_counter == u16::MAX || record.counters.session == u16::MAX;
+        let again = if spent { 30 } else { 2 };
+        match self.random.weighted(&[60, 4, 4, 2, again, 2, 6, 1]) {
+            0 => self.open(),
+            1 => self.open_of_wrong_length(),
+            2 => frame(5, &[]),
+            3 => self.with_bytes_after(),
+            4 => self.personalise(),
+            5 => self.spoilt_personalise(),
+            6 => self.stray(),
+            _ => self.any_frame(0),
+        }
+    }
+
+    /// In an open transaction. An undamaged trace has few refusals, so that its commands are kept.
+    fn inside(&mut self) -> Line {
+        let bad = match self.damage {
+            1000 => 1,
+            40 => 6,
+            _ => 22,
+        };
+        match self.random.weighted(&[34, bad, 8, 5, 6, 13, 7, 3, 4, 1, 2, 1]) {
+            0 => self.good_script(),
+            1 => self.bad_script(),
+            2 => self.issuer_answer(),
+            3 => self.wrong_issuer_answer(),
+            4 => frame(6, &[]),
+            5 => frame(4, &[]),
+            6 => frame(5, &[]),
+            7 if self.random.once_in(3) => self.open_of_wrong_length(),
+            7 => self.open(),
+            8 => self.with_bytes_after(),
+            9 => self.personalise(),
+            10 => self.spoilt_personalise(),
+            _ => self.any_frame(0),
+        }
+    }
+
+    /// Any frame from a first one on, of any length that can be read.
+    fn any_frame(&mut self, from: u8) -> Line {
+        let first = self.random.within(from.into(), 6) as u8;
+        let any = self.random.below(140);
+        let length = self.random.choose(&[0, 0, 1, 3, 4, 12, 65, 115, any]);
+        frame(first, &self.random.bytes(length))
+    }
+
+    /// Frames that need an open transaction, of the right length.
+    fn stray(&mut self) -> Line {
+        match self.random.below(4) {
+            0 => frame(2, &self.random.bytes(12)),
+            1 => self.old_script.clone().unwrap_or_else(|| script(&Command::Block.header(), &[])),
+            2 => frame(4, &[]),
+            _ => frame(6, &[]),
+        }
+    }
+
+    fn with_bytes_after(&mut self) -> Line {
+        let first = self.random.choose(&[4, 5, 6]);
+        let count = self.random.choose(&[1, 1, 2, 139]);
+        frame(first, &self.random.bytes(count))
+    }
+
+    /// A counter, often near its end.
+    fn counter(&mut self) -> u16 {
+        let any = self.random.next() as u16;
+        self.random.choose(&[0, 0, 1, 255, 256, any, any, 65530, 65532, 65533, 65534, 65534, 65535])
+    }
+
+    fn key(&mut self) -> Key {
+        if self.random.once_in(8) {
+            return [0; 32];
+        }
+        self.random.array()
+    }
+
+    fn good_pin_block(&mut self) -> [u8; 8] {
+        let count = self.random.within(4, 12);
+        pin::write(&self.random.digits(count)).expect("digits")
+    }
+
+    /// A block with one half-byte that it must not have, one of too few or too many digits, or any bytes.
+    fn bad_pin_block(&mut self) -> [u8; 8] {
+        loop {
+            let mut block = self.good_pin_block();
+            let place = self.random.choose(&[0, 1, 1, 1, 2, 5, 6, 13, 14, 15]);
+            block[place / 2] ^= (self.random.within(1, 15) << (4 * (1 - place % 2))) as u8;
+            match self.random.below(10) {
+                0 => block = self.random.array(),
+                1..=3 => block = self.block_of_wrong_count(),
+                _ => {}
+            }
+            if pin::read(&block).is_err() {
+                return block;
+            }
+        }
+    }
+
+    /// Written by the rule, but for fewer than 4 digits or more than 12.
+    fn block_of_wrong_count(&mut self) -> [u8; 8] {
+        let count = self.random.choose(&[0, 1, 2, 3, 3, 13, 13, 14]);
+        pin::written(count as u8, &self.random.digits(count))
+    }
+
+    fn personalise_with(&mut self, mark: u8, block: [u8; 8]) -> Vec<u8> {
+        let keys = [self.key(), self.key(), self.key()].concat();
+        let counters: Vec<u8> = (0..5).flat_map(|_| self.counter().to_be_bytes()).collect();
+        [&keys[..], &counters, &[mark], &block].concat()
+    }
+
+    fn personalise(&mut self) -> Line {
+        let block = self.good_pin_block();
+        let mark = self.random.choose(&[0, 0, 0, 1]);
+        frame(0, &self.personalise_with(mark, block))
+    }
+
+    fn spoilt_personalise(&mut self) -> Line {
+        let (good, bad) = (self.good_pin_block(), self.bad_pin_block());
+        match self.random.below(6) {
+            0 => {
+                let mark = self.random.choose(&[2, 0x80, 0xff]);
+                frame(0, &self.personalise_with(mark, good))
+            }
+            1 => frame(0, &self.personalise_with(2, bad)),
+            2 => {
+                let mut rest = self.personalise_with(0, good);
+                rest.truncate(self.random.choose(&[0, 1, 106, 114]));
+                frame(0, &rest)
+            }
+            3 => {
+                let extra = self.random.within(1, 24);
+                frame(0, &[self.personalise_with(0, good), self.random.bytes(extra)].concat())
+            }
+            _ => frame(0, &self.personalise_with(0, bad)),
+        }
+    }
+
+    fn open(&mut self) -> Line {
+        let data = if self.random.once_in(5) { vec![0; 65] } else { self.random.bytes(65) };
+        frame(1, &data)
+    }
+
+    fn open_of_wrong_length(&mut self) -> Line {
+        let any = self.random.below(140);
+        let length = self.random.choose(&[0, 64, 66, any]);
+        frame(1, &self.random.bytes(length))
+    }
+
+    /// The answer that the issuer would give, to this transaction.
+    fn issuer_answer(&mut self) -> Line {
+        let csu = self.random.array();
+        let record = self.record();
+        let key = session_key(&record.ac, record.transaction_counter);
+        frame(2, &[&arpc(&key, &record.cryptogram, &csu)[..], &csu].concat())
+    }
+
+    fn wrong_issuer_answer(&mut self) -> Line {
+        let mut line = self.issuer_answer();
+        match self.random.below(4) {
+            0 => line.truncate(2 * self.random.within(1, 12)),
+            1 => line.extend(b"00"),
+            _ => {
+                let place = self.random.within(2, 25);
+                line[place] = if line[place] == b'0' { b'1' } else { b'0' };
+            }
+        }
+        line
+    }
+
+    fn smi(&self) -> Key {
+        script_key(&self.record().smi, &self.record().cryptogram)
+    }
+
+    fn enciphered(&self, block: &[u8; 8]) -> Vec<u8> {
+        encipher(&script_key(&self.record().smc, &self.record().cryptogram), block).to_vec()
+    }
+
+    fn good_message(&mut self, command: Command) -> Vec<u8> {
+        let block = self.good_pin_block();
+        let data = if command == Command::ChangePin { self.enciphered(&block) } else { vec![] };
+        wrapped(&self.smi(), &command.header(), command.tag(), &data).expect("a listed command")
+    }
+
+    fn command(&mut self) -> Command {
+        self.random.choose(&Command::ALL)
+    }
+
+    fn good_script(&mut self) -> Line {
+        let command = self.command();
+        let line = script(&command.header(), &self.good_message(command));
+        if self.random.once_in(3) {
+            self.old_script = Some(line.clone());
+        }
+        line
+    }
+
+    fn bad_script(&mut self) -> Line {
+        match self.random.weighted(&[2, 6, 6, 6, 6]) {
+            0 => {
+                let length = self.random.below(4);
+                script(&self.command().header()[..length], &[])
+            }
+            1 => self.misshapen_script(),
+            2 => self.unlisted_script(),
+            3 => self.miscoded_script(),
+            _ => {
+                let block = self.bad_pin_block();
+                let header = Command::ChangePin.header();
+                script(&header, &wrapped(&self.smi(), &header, ENCIPHERED, &self.enciphered(&block)).expect("8 bytes"))
+            }
+        }
+    }
+
+    /// Refusal 4: one part of the shape is wrong.
+    fn misshapen_script(&mut self) -> Line {
+        let command = self.command();
+        let mut message = self.good_message(command);
+        let length = command.length();
+        match self.random.below(9) {
+            0 => message.clear(),
+            1 => message[0] = self.random.choose(&[0x86, 0x88, 0x80, 0x00, 0x07]),
+            2 => message[1] = message[1].wrapping_add(1),
+            3 => message[1] = message[1].wrapping_sub(1),
+            4 => message[1] |= 0x80,
+            5 => message[2 + length] ^= 1 << self.random.below(8),
+            6 => message[3 + length] ^= 1 << self.random.below(8),
+            7 => message.truncate(self.random.below(length + 8)),
+            _ => {
+                let extra = self.random.within(1, 10);
+                message.extend(self.random.bytes(extra));
+            }
+        }
+        script(&command.header(), &message)
+    }
+
+    /// Refusal 5: a good code, mostly, on a command that is not listed.
+    fn unlisted_script(&mut self) -> Line {
+        let command = self.command();
+        let (mut header, mut tag, mut length) = (command.header(), command.tag(), command.length());
+        match self.random.below(8) {
+            place @ 0..=3 => header[place] = self.random.byte(),
+            4 => header[1] = self.random.choose(&[0x24, 0x1e, 0x18, 0x16]),
+            5 => tag ^= ENCIPHERED ^ CLEAR,
+            6 => length = self.random.choose(&[length + 1, 7, 9, LARGEST]),
+            _ => length = self.random.below(LARGEST + 1),
+        }
+        let mut message = wrapped(&self.smi(), &header, tag, &self.random.bytes(length)).expect("known tag");
+        if self.random.once_in(4) {
+            message[length + 7] ^= 1;
+        }
+        script(&header, &message)
+    }
+
+    /// Refusal 8: a listed command whose code is another's.
+    fn miscoded_script(&mut self) -> Line {
+        let command = self.command();
+        let header = command.header();
+        let mut message = self.good_message(command);
+        let end = message.len();
+        match self.random.below(6) {
+            0 => message[end - 1 - self.random.below(4)] ^= 1 << self.random.below(8),
+            1 => message[end - 4..].fill(0),
+            2 => {
+                let key = script_key(&self.record().smc, &self.record().cryptogram);
+                message = wrapped(&key, &header, command.tag(), &message[2..end - 6]).expect("known tag");
+            }
+            3 => message = wrapped(&self.record().smi, &header, command.tag(), &message[2..end - 6]).expect("known tag"),
+            4 if command == Command::ChangePin => message[2 + self.random.below(8)] ^= 1 << self.random.below(8),
+            4 => {
+                let other = if command == Command::Block { Command::Unblock } else { Command::Block };
+                return script(&other.header(), &message);
+            }
+            _ => {
+                if let Some(line) = &self.old_script {
+                    return line.clone();
+                }
+                message[end - 2] ^= 0x55;
+            }
+        }
+        script(&header, &message)
+    }
+
+    /// A line that could stand here.
+    fn plain(&mut self) -> Line {
+        let open = self.run.record.as_ref().is_some_and(Record::is_open);
+        match self.random.below(5) {
+            0 => self.open(),
+            1 if open => self.good_script(),
+            2 if open => self.issuer_answer(),
+            3 => self.personalise(),
+            _ => frame(self.random.within(4, 6) as u8, &[]),
+        }
+    }
+
+    /// Refusal 13 for each of its causes, alone and with others; among them lines at the edge that can be read.
+    fn unreadable(&mut self) -> Line {
+        let mut line = self.plain();
+        match self.random.below(14) {
+            0 => line.clear(),
+            1 => {
+                let place = self.random.below(line.len());
+                line.remove(place);
+            }
+            2 => line.push(b'\r'),
+            3 => {
+                let place = self.random.below(line.len() + 1);
+                line.insert(place, b' ');
+            }
+            4 => self.capital(&mut line),
+            5 => self.put(&mut line, &[0]),
+            6 => {
+                let high = self.random.within(0x80, 0xff) as u8;
+                self.put(&mut line, &[high]);
+            }
+            7 => self.put(&mut line, b"/:@G`g\x0b\x1a\x7f{-"),
+            8 => self.put(&mut line, b" \t"),
+            9 => self.put(&mut line, b"\r"),
+            10 => {
+                let first = format!("{:02x}", self.random.choose(&[7, 8, 0x10, 0x60, 0xff]));
+                line[..2].copy_from_slice(first.as_bytes());
+            }
+            11 | 12 => line = self.line_at_the_edge(),
+            _ if self.random.once_in(12) => line = vec![b'0'; self.random.within(283, 70_000)],
+            _ => {
+                let length = self.random.within(1, 290);
+                line = self.random.bytes(length).into_iter().filter(|&byte| byte != b'\n').collect();
+            }
+        }
+        line
+    }
+
+    /// One of the signs in the place of a digit, or beside the digits: a reader that skips it would see a good line.
+    fn put(&mut self, line: &mut Line, signs: &[u8]) {
+        let sign = self.random.choose(signs);
+        let place = self.random.choose(&[0, 1, line.len() - 1, line.len() / 2]);
+        match self.random.below(4) {
+            0 => line.insert(place, sign),
+            1 => line.splice(place..place, [sign, sign]).for_each(drop),
+            _ => line[place] = sign,
+        }
+    }
+
+    /// A capital in the place of its small letter, or of another digit.
+    fn capital(&mut self, line: &mut Line) {
+        match line.iter().position(|sign| sign.is_ascii_lowercase()) {
+            Some(place) if self.random.once_in(2) => line[place] = line[place].to_ascii_uppercase(),
+            _ => self.put(line, b"ABCDEF"),
+        }
+    }
+
+    /// 279 to 283 digits. The 280 of a script with the most data are a frame like any other.
+    fn line_at_the_edge(&mut self) -> Line {
+        let open = self.run.record.as_ref().is_some_and(Record::is_open);
+        let key = if open { self.smi() } else { [0; 32] };
+        let header = self.command().header();
+        let message = wrapped(&key, &header, ENCIPHERED, &self.random.bytes(LARGEST)).expect("127 bytes");
+        let mut line = script(&header, &message);
+        line.resize(self.random.within(279, 283), b'0');
+        line[1] = self.random.choose(b"33333012456");
+        line
+    }
+}
+
+#[cfg(test)]
+mod tests {
+    use super::*;
+
+    #[test]
+    fn the_same_seed_makes_the_same_trace() {
+        assert_eq!(trace(7), trace(7));
+        assert_ne!(trace(7), trace(8));
+    }
+
+    #[test]
+    fn about_fifty_lines() {
+        let lines: usize = (0..200).map(|seed| trace(seed).split(|&byte| byte == b'\n').count()).sum();
+        assert!((40..60).contains(&(lines / 200)), "{lines}");
+    }
+}

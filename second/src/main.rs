@@ -1,0 +1,130 @@
+//! The second program: the rules of the box written once more from the papers, to compare the first program with.
+
+mod calls;
+mod card;
+mod cipher;
+mod compare;
+mod cryptogram;
+mod derive;
+mod generate;
+mod hash;
+mod hmac;
+mod keys;
+mod message;
+mod octets;
+mod pin;
+#[cfg(test)]
+mod published;
+mod random;
+mod refusal;
+mod slips;
+mod tally;
+mod trace;
+mod vectors;
+
+use std::collections::BTreeMap;
+use std::io::{self, BufRead, Write};
+use std::process::ExitCode;
+
+const USAGE: &str = "usage: second trace             a clerk's trace, standard input to standard output
+       second vectors           published vectors as lines, standard input to standard output
+       second generate SEED     a random trace, valid and damaged
+       second tally FROM TO     how often the traces of these seeds reach each answer of each frame
+       second compare FROM N COMMAND...
+                                N traces from a seed on, answered by us and by another trace program
+       second slip NAME         a clerk's trace on a wrong card, to try the comparison: NAMES
+       second calls SEED N      N random calls of the library for C, with what must come of each
+       second check             checks such lines, ours or a judge's, on standard input";
+
+fn main() -> ExitCode {
+    let words: Vec<String> = std::env::args().skip(1).collect();
+    let words: Vec<&str> = words.iter().map(String::as_str).collect();
+    let result = match words[..] {
+        ["trace"] => run_trace(),
+        ["vectors"] => run_vectors(),
+        ["generate", seed] => io::stdout().write_all(&generate::trace(number(seed))).map(|()| ExitCode::SUCCESS),
+        ["tally", from, to] => count_answers(number(from), number(to)),
+        ["compare", from, count, ref command @ ..] if !command.is_empty() => run_compare(number(from), number(count), command),
+        ["slip", name] => run_slip(name),
+        ["calls", seed, count] => write_calls(number(seed), number(count)),
+        ["check"] => check_calls(),
+        _ => {
+            let slips: Vec<&str> = slips::SLIPS.iter().map(|(name, _)| *name).collect();
+            eprintln!("{}", USAGE.replace("NAMES", &slips.join(", ")));
+            return ExitCode::from(2);
+        }
+    };
+    result.unwrap_or_else(|error| {
+        eprintln!("second: {error}");
+        ExitCode::from(2)
+    })
+}
+
+fn run_trace() -> io::Result<ExitCode> {
+    let mut clerk = trace::Run::default();
+    trace::run(io::stdin().lock(), io::stdout().lock(), |line| clerk.answer(line))?;
+    Ok(ExitCode::SUCCESS)
+}
+
+fn run_slip(name: &str) -> io::Result<ExitCode> {
+    let Some((_, slip)) = slips::SLIPS.iter().find(|(known, _)| *known == name) else {
+        eprintln!("second: no such slip: {name}");
+        return Ok(ExitCode::from(2));
+    };
+    let mut clerk = slips::Slipping::new(*slip);
+    trace::run(slips::input(*slip, io::stdin().lock()), io::stdout().lock(), |line| clerk.answer(line))?;
+    Ok(ExitCode::SUCCESS)
+}
+
+fn run_compare(from: u64, count: u64, command: &[&str]) -> io::Result<ExitCode> {
+    let agree = compare::compare(&compare::Peer { command }, from, count)?;
+    Ok(if agree { ExitCode::SUCCESS } else { ExitCode::FAILURE })
+}
+
+fn run_vectors() -> io::Result<ExitCode> {
+    let mut output = io::stdout().lock();
+    for line in io::stdin().lock().lines() {
+        writeln!(output, "{}", vectors::answer(&line?))?;
+    }
+    Ok(ExitCode::SUCCESS)
+}
+
+/// A number among the words.
+fn number(word: &str) -> u64 {
+    word.parse().unwrap_or_else(|_| {
+        eprintln!("second: not a number: {word}");
+        std::process::exit(2)
+    })
+}
+
+fn write_calls(seed: u64, count: u64) -> io::Result<ExitCode> {
+    let mut output = io::BufWriter::new(io::stdout().lock());
+    let mut caller = calls::Caller::new(seed);
+    for i in 0..count as usize {
+        writeln!(output, "{}", caller.call(i))?;
+    }
+    output.flush()?;
+    Ok(ExitCode::SUCCESS)
+}
+
+fn check_calls() -> io::Result<ExitCode> {
+    let mut counts = BTreeMap::new();
+    for line in io::stdin().lock().lines() {
+        match calls::check(&line?) {
+            Ok(name) => *counts.entry(name).or_insert(0) += 1,
+            Err(difference) => {
+                println!("second: a difference\n{difference}");
+                return Ok(ExitCode::FAILURE);
+            }
+        }
+    }
+    let counts: Vec<String> = counts.iter().map(|(name, count)| format!("{name} {count}")).collect();
+    println!("second agrees: {}", counts.join(", "));
+    Ok(if counts.is_empty() { ExitCode::FAILURE } else { ExitCode::SUCCESS })
+}
+
+fn count_answers(from: u64, to: u64) -> io::Result<ExitCode> {
+    let mut tally = tally::Tally::default();
+    (from..=to).for_each(|seed| tally.count(&generate::trace(seed)));
+    Ok(if tally.print() { ExitCode::SUCCESS } else { ExitCode::FAILURE })
+}

@@ -1,0 +1,429 @@
+//! How often each answer of each frame was reached, and for which of its causes.
+
+use std::collections::{BTreeMap, BTreeSet};
+use std::fmt::Write;
+
+use crate::card::{PendingMark, Phase, Record};
+use crate::message::{shape, Command};
+use crate::octets::{digit, from_hex};
+use crate::pin::Pin;
+use crate::refusal::{number_of, Refusal};
+use crate::trace::{Answered, Run, LAST_FRAME, LONGEST};
+
+/// Which numbers paper 01 names for a frame; 13 for a line that starts like it.
+const NAMED: [(u8, &[u8]); 7] = [
+    (0, &[0, 1, 9, 13]),
+    (1, &[0, 1, 6, 7, 13]),
+    (2, &[0, 1, 6, 11, 13]),
+    (3, &[0, 1, 4, 5, 6, 7, 8, 9, 13]),
+    (4, &[0, 1, 6, 10, 13]),
+    (5, &[0, 1, 6, 13]),
+    (6, &[0, 1, 6, 13]),
+];
+
+/// Causes that must be reached too.
+const CAUSES: &[&str] = &[
+    "00 0 again, none open",
+    "00 0 again, open",
+    "00 0 first",
+    "00 1 length",
+    "00 1 mark",
+    "00 1 mark, and PIN block wrong",
+    "00 9 with a record",
+    "00 9 with none",
+    "01 0 AAC",
+    "01 0 ARQC",
+    "01 0 session counter reaches 65535",
+    "01 0 transaction counter reaches 65535",
+    "01 1 length",
+    "01 6 before a record",
+    "01 6 open already",
+    "01 6 open already, wrong length",
+    "01 7 session counter",
+    "01 7 transaction counter",
+    "02 0 once more",
+    "02 0 session counter at 0",
+    "02 0 session counter reset",
+    "02 0 spoilt",
+    "02 1 length",
+    "02 11 code differs",
+    "02 6 after an AAC",
+    "02 6 before a record",
+    "02 6 none open",
+    "03 0 Block",
+    "03 0 Block after Block",
+    "03 0 Block after ChangePin",
+    "03 0 Block after Unblock",
+    "03 0 ChangePin",
+    "03 0 ChangePin after Block",
+    "03 0 ChangePin after ChangePin",
+    "03 0 ChangePin after Unblock",
+    "03 0 Unblock",
+    "03 0 Unblock after Block",
+    "03 0 Unblock after ChangePin",
+    "03 0 Unblock after Unblock",
+    "03 0 in an AAC transaction",
+    "03 0 in an ARQC transaction",
+    "03 0 in a spoilt transaction",
+    "03 1 header",
+    "03 4 shape",
+    "03 5 command",
+    "03 5 longest message",
+    "03 6 before a record",
+    "03 6 none open",
+    "03 7 failure counter",
+    "03 8 code",
+    "03 8 failure counter reaches 65535",
+    "03 9 PIN block",
+    "04 0 clears the mark",
+    "04 0 new PIN",
+    "04 0 new PIN and mark",
+    "04 0 nothing pending",
+    "04 0 sets the mark",
+    "04 1 bytes after, open",
+    "04 10 nothing pending",
+    "04 10 pending dropped",
+    "04 6 before a record",
+    "04 6 none open",
+    "05 0 after 01",
+    "05 0 after 02",
+    "05 0 after 03 accepted",
+    "05 0 after 03 refused",
+    "05 0 after 06",
+    "05 0 none open",
+    "05 0 pending dropped",
+    "05 0 spoilt",
+    "05 1 bytes after, none open",
+    "05 1 bytes after, open",
+    "05 6 before a record",
+    "06 0 AAC",
+    "06 0 ARQC",
+    "06 0 spoilt",
+    "06 1 bytes after, open",
+    "06 6 before a record",
+    "06 6 none open",
+    "13 alone: capital",
+    "13 alone: carriage return",
+    "13 alone: empty",
+    "13 alone: first byte above 06",
+    "13 alone: high byte",
+    "13 alone: more than 280 digits",
+    "13 alone: odd count",
+    "13 alone: other sign",
+    "13 alone: NUL",
+    "13 alone: blank",
+    "13 before a record",
+    "line of 279 signs",
+    "line of 280 signs",
+    "line of 281 signs",
+    "line of 282 signs",
+    "line of 283 signs",
+    "torn last line",
+];
+
+#[derive(Default)]
+pub struct Tally {
+    numbers: BTreeMap<(String, u8), usize>,
+    causes: BTreeMap<String, usize>,
+    run: Run,
+    /// The last command accepted in this transaction, and the last frame with its number.
+    command: Option<Command>,
+    last: (u8, u8),
+    pub lines: usize,
+}
+
+impl Tally {
+    /// Counts every line of a trace, from its own beginning.
+    pub fn count(&mut self, trace: &[u8]) {
+        self.run = Run::default();
+        self.command = None;
+        let mut lines: Vec<&[u8]> = trace.split(|&byte| byte == b'\n').collect();
+        match lines.pop() {
+            Some(last) if !last.is_empty() => {
+                lines.push(last);
+                self.cause("torn last line".into());
+            }
+            _ => {}
+        }
+        lines.into_iter().for_each(|line| self.count_line(line));
+    }
+
+    fn count_line(&mut self, line: &[u8]) {
+        let before = self.run.clone();
+        let answer = self.run.answer(line);
+        let number = number_of(&answer);
+        self.lines += 1;
+        *self.numbers.entry((row(line), number)).or_default() += 1;
+        if (279..=283).contains(&line.len()) {
+            self.cause(format!("line of {} signs", line.len()));
+        }
+        if number == Refusal::Line.number() {
+            self.count_unreadable(line, before.record.is_none());
+            return;
+        }
+        let frame = from_hex(line).expect("a readable line");
+        for cause in self.causes_of(&before, &frame, &answer) {
+            self.cause(format!("{:02x} {number} {cause}", frame[0]));
+        }
+        self.remember(&frame, number);
+    }
+
+    fn cause(&mut self, cause: String) {
+        *self.causes.entry(cause).or_default() += 1;
+    }
+
+    fn count_unreadable(&mut self, line: &[u8], early: bool) {
+        let faults = faults(line);
+        for fault in &faults {
+            let alone = if faults.len() == 1 { "alone" } else { "with others" };
+            self.cause(format!("13 {alone}: {fault}"));
+        }
+        if early {
+            self.cause("13 before a record".into());
+        }
+    }
+
+    fn remember(&mut self, frame: &[u8], number: u8) {
+        self.last = (frame[0], number);
+        match frame[0] {
+            3 if number == 0 => self.command = command_of(frame),
+            _ if !self.run.record.as_ref().is_some_and(Record::is_open) => self.command = None,
+            _ => {}
+        }
+    }
+
+    /// Why a frame got its number; a frame may have several causes to count.
+    fn causes_of(&self, before: &Run, frame: &[u8], answer: &Answered) -> Vec<String> {
+        let number = number_of(answer);
+        let Some(record) = &before.record else { return causes_early(frame, number) };
+        let open = record.is_open();
+        let phase = if record.phase == Phase::Aac { "AAC" } else { "ARQC" };
+        let text = |cause: &str| vec![cause.to_string()];
+        match (frame[0], number) {
+            (0, 0) => text(if open { "again, open" } else { "again, none open" }),
+            (0, 1) => text(personalise_fault(frame)),
+            (0, _) => text("with a record"),
+            (1, 0) => self.causes_of_open(),
+            (1, 6) if frame.len() != 66 => text("open already, wrong length"),
+            (1, 6) => text("open already"),
+            (1, 7) if record.transaction_counter == u16::MAX => text("transaction counter"),
+            (1, 7) => text("session counter"),
+            (1 | 2, 1) => text("length"),
+            (2, 0) => causes_of_answer(record, self.last == (2, 0)),
+            (2, 6) if open => text("after an AAC"),
+            (2, 11) => text("code differs"),
+            (3, 0) => self.causes_of_script(record, frame, phase),
+            (3, 6) => text("none open"),
+            (3, _) => self.causes_of_bad_script(frame, number),
+            (4, 0) => causes_of_close(record),
+            (4, 10) => text(if pending(record) { "pending dropped" } else { "nothing pending" }),
+            (4..=6, 1) => text(if open { "bytes after, open" } else { "bytes after, none open" }),
+            (5, 0) => self.causes_of_withdraw(record),
+            (6, 0) if record.spoilt => vec![phase.to_string(), "spoilt".to_string()],
+            (6, 0) => text(phase),
+            _ => text("none open"),
+        }
+    }
+
+    fn causes_of_open(&self) -> Vec<String> {
+        let after = self.run.record.as_ref().expect("a record");
+        let mut causes = vec![if after.phase == Phase::Aac { "AAC" } else { "ARQC" }.to_string()];
+        if after.transaction_counter == u16::MAX {
+            causes.push("transaction counter reaches 65535".to_string());
+        }
+        if after.counters.session == u16::MAX {
+            causes.push("session counter reaches 65535".to_string());
+        }
+        causes
+    }
+
+    fn causes_of_script(&self, record: &Record, frame: &[u8], phase: &str) -> Vec<String> {
+        let command = command_of(frame).expect("an accepted command");
+        let mut causes = vec![format!("{command:?}"), format!("in an {phase} transaction")];
+        causes.extend(self.command.map(|earlier| format!("{command:?} after {earlier:?}")));
+        if record.spoilt {
+            causes.push("in a spoilt transaction".to_string());
+        }
+        causes
+    }
+
+    fn causes_of_bad_script(&self, frame: &[u8], number: u8) -> Vec<String> {
+        let cause = match number {
+            1 => "header",
+            4 => "shape",
+            5 => "command",
+            7 => "failure counter",
+            8 => "code",
+            _ => "PIN block",
+        };
+        let mut causes = vec![cause.to_string()];
+        if number == 5 && frame.len() == LONGEST / 2 {
+            causes.push("longest message".to_string());
+        }
+        let failures = self.run.record.as_ref().map(|after| after.counters.failure);
+        if number == 8 && failures == Some(u16::MAX) {
+            causes.push("failure counter reaches 65535".to_string());
+        }
+        causes
+    }
+
+    fn causes_of_withdraw(&self, record: &Record) -> Vec<String> {
+        if !record.is_open() {
+            return vec!["none open".to_string()];
+        }
+        let mut causes = vec![];
+        match self.last {
+            (3, 0) => causes.push("after 03 accepted".to_string()),
+            (3, _) => causes.push("after 03 refused".to_string()),
+            (first, 0) => causes.push(format!("after {first:02x}")),
+            _ => {}
+        }
+        if pending(record) {
+            causes.push("pending dropped".to_string());
+        }
+        if record.spoilt {
+            causes.push("spoilt".to_string());
+        }
+        causes
+    }
+
+    /// What was named and never reached.
+    fn missing(&self) -> Vec<String> {
+        let numbers = NAMED.iter().flat_map(|(first, numbers)| numbers.iter().map(move |&number| (format!("{first:02x}"), number)));
+        let unreached = numbers.filter(|key| !self.numbers.contains_key(key)).map(|(row, number)| format!("frame {row} number {number}"));
+        let causes = CAUSES.iter().filter(|cause| !self.causes.contains_key(**cause)).map(|cause| cause.to_string());
+        unreached.chain(causes).collect()
+    }
+
+    /// Prints what was reached; true where nothing that is named is missing.
+    pub fn print(&self) -> bool {
+        print!("{}", self.report());
+        let missing = self.missing();
+        missing.iter().for_each(|what| println!("never reached: {what}"));
+        missing.is_empty()
+    }
+
+    /// The table of frames and numbers, and the causes beneath it.
+    fn report(&self) -> String {
+        let rows: BTreeSet<&String> = self.numbers.keys().map(|(row, _)| row).collect();
+        let mut text = String::from("frame ");
+        (0..=13).for_each(|number| write!(text, "{number:>7}").expect("memory"));
+        for row in rows {
+            write!(text, "\n{row:<6}").expect("memory");
+            for number in 0..=13 {
+                let count = self.numbers.get(&(row.clone(), number));
+                write!(text, "{:>7}", count.map_or(String::new(), usize::to_string)).expect("memory");
+            }
+        }
+        text.push('\n');
+        for (cause, count) in &self.causes {
+            writeln!(text, "{count:>7}  {cause}").expect("memory");
+        }
+        text
+    }
+}
+
+/// The row of a line: the frame that it starts with.
+fn row(line: &[u8]) -> String {
+    match line {
+        [b'0', first @ b'0'..=b'6', ..] => format!("0{}", char::from(*first)),
+        _ => "other".to_string(),
+    }
+}
+
+/// Everything that makes a line unreadable.
+fn faults(line: &[u8]) -> BTreeSet<&'static str> {
+    let mut faults: BTreeSet<&str> = line.iter().filter(|&&sign| digit(sign).is_none()).map(|&sign| sign_name(sign)).collect();
+    if line.is_empty() {
+        faults.insert("empty");
+    }
+    if line.len() % 2 == 1 {
+        faults.insert("odd count");
+    }
+    if line.len() > LONGEST {
+        faults.insert("more than 280 digits");
+    }
+    let first = line.get(..2).and_then(from_hex);
+    if first.is_some_and(|first| first[0] > LAST_FRAME) {
+        faults.insert("first byte above 06");
+    }
+    faults
+}
+
+fn sign_name(sign: u8) -> &'static str {
+    match sign {
+        0 => "NUL",
+        b'\r' => "carriage return",
+        b' ' | b'\t' => "blank",
+        b'A'..=b'F' => "capital",
+        0x80.. => "high byte",
+        _ => "other sign",
+    }
+}
+
+fn causes_early(frame: &[u8], number: u8) -> Vec<String> {
+    let cause = match (frame[0], number) {
+        (0, 0) => "first",
+        (0, 1) => personalise_fault(frame),
+        (0, _) => "with none",
+        _ => "before a record",
+    };
+    vec![cause.to_string()]
+}
+
+fn personalise_fault(frame: &[u8]) -> &'static str {
+    let block: Result<[u8; 8], _> = frame[frame.len().saturating_sub(8)..].try_into();
+    match frame.len() {
+        116 if block.is_ok_and(|block| crate::pin::read(&block).is_err()) => "mark, and PIN block wrong",
+        116 => "mark",
+        _ => "length",
+    }
+}
+
+fn command_of(frame: &[u8]) -> Option<Command> {
+    let header = frame.get(1..5)?.try_into().ok()?;
+    Command::of(&header, &shape(&frame[5..]).ok()?).ok()
+}
+
+fn pending(record: &Record) -> bool {
+    record.pending_pin != Pin::NONE || record.pending_mark != PendingMark::None
+}
+
+fn causes_of_answer(record: &Record, again: bool) -> Vec<String> {
+    let reset = if record.counters.session == 0 { "session counter at 0" } else { "session counter reset" };
+    let mut causes = vec![reset.to_string()];
+    if again {
+        causes.push("once more".to_string());
+    }
+    if record.spoilt {
+        causes.push("spoilt".to_string());
+    }
+    causes
+}
+
+fn causes_of_close(record: &Record) -> Vec<String> {
+    let mut causes = vec![];
+    let new_pin = record.pending_pin != Pin::NONE;
+    match record.pending_mark {
+        PendingMark::None if !new_pin => causes.push("nothing pending"),
+        PendingMark::None => {}
+        PendingMark::Set => causes.push("sets the mark"),
+        PendingMark::Clear => causes.push("clears the mark"),
+    }
+    if new_pin {
+        causes.push(if record.pending_mark == PendingMark::None { "new PIN" } else { "new PIN and mark" });
+    }
+    causes.into_iter().map(str::to_string).collect()
+}
+
+#[cfg(test)]
+mod tests {
+    use super::*;
+
+    #[test]
+    fn the_traces_reach_everything() {
+        let mut tally = Tally::default();
+        (1..=300).for_each(|seed| tally.count(&crate::generate::trace(seed)));
+        assert_eq!(tally.missing(), Vec::<String>::new());
+    }
+}

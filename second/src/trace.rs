@@ -1,0 +1,265 @@
+//! The clerk's trace: one frame a line in lower-case hexadecimal, each answered by one line.
+
+use std::io::{self, Read, Write};
+
+use crate::card::{After, Phase, Record};
+use crate::octets::{from_hex, to_hex};
+use crate::pin::{self, Counters};
+use crate::refusal::{number_of, Refusal};
+
+/// The longest line that is read, in digits, and the last frame.
+pub const LONGEST: usize = 280;
+pub const LAST_FRAME: u8 = 6;
+
+/// What a line is answered: the bytes of an accepted frame, or the refusal.
+pub type Answered = Result<Vec<u8>, Refusal>;
+
+/// The frame that a line writes, or 13.
+pub fn read_frame(line: &[u8]) -> Result<Vec<u8>, Refusal> {
+    if line.is_empty() || line.len() > LONGEST {
+        return Err(Refusal::Line);
+    }
+    let frame = from_hex(line).ok_or(Refusal::Line)?;
+    if frame[0] > LAST_FRAME {
+        return Err(Refusal::Line);
+    }
+    Ok(frame)
+}
+
+/// The line of an answer, without its line feed.
+pub fn written(answer: &Answered) -> String {
+    let bytes = answer.as_deref().unwrap_or(&[]);
+    format!("{:02x}{}", number_of(answer), to_hex(bytes))
+}
+
+/// A run: the record, once there is one.
+#[derive(Clone, Default)]
+pub struct Run {
+    pub record: Option<Record>,
+}
+
+impl Run {
+    pub fn answer(&mut self, line: &[u8]) -> Answered {
+        let frame = read_frame(line)?;
+        let (first, rest) = (frame[0], &frame[1..]);
+        if first == 0 {
+            self.record = Some(personalised(rest)?);
+            return Ok(vec![]);
+        }
+        let record = self.record.clone().ok_or(Refusal::Phase)?;
+        let (after, answer) = call(record, first, rest);
+        self.record = Some(after);
+        answer
+    }
+}
+
+/// Frame 00: keys AC, SMI and SMC, counter, counter block, mark, clear PIN block. 1 (length, mark) goes ahead of 9.
+fn personalised(rest: &[u8]) -> Result<Record, Refusal> {
+    let fields: &[u8; 115] = rest.try_into().map_err(|_| Refusal::Range)?;
+    let key = |i: usize| std::array::from_fn(|j| fields[32 * i + j]);
+    let block = |from: usize| std::array::from_fn(|j| fields[from + j]);
+    let mark = fields[106];
+    if mark > 1 {
+        return Err(Refusal::Range);
+    }
+    let pin = pin::read(&block(107))?;
+    let counter = u16::from_be_bytes([fields[96], fields[97]]);
+    Ok(Record::new([key(0), key(1), key(2)], counter, Counters::of_block(&block(98)), mark == 1, pin))
+}
+
+/// Frames 01 to 06 on a record.
+fn call(record: Record, first: u8, rest: &[u8]) -> After<Vec<u8>> {
+    match first {
+        1 => bytes(record.open(rest), |answer| [&[answer.kind.byte()], &answer.cryptogram[..]].concat()),
+        2 => {
+            let (answer, csu) = rest.split_at(rest.len().min(8));
+            bytes(record.issuer_answer(answer, csu), |()| vec![])
+        }
+        3 => {
+            let (header, message) = rest.split_at(rest.len().min(4));
+            bytes(record.script(header, message), |()| vec![])
+        }
+        4 => within(record, rest, |record| bytes(record.close(), |()| vec![])),
+        5 if rest.is_empty() => bytes(record.withdraw(), |()| vec![]),
+        5 => (record, Err(Refusal::Range)),
+        _ => within(record, rest, |record| bytes(record.counters(), |block| block.to_vec())),
+    }
+}
+
+fn bytes<T>((record, answer): After<T>, write: impl Fn(T) -> Vec<u8>) -> After<Vec<u8>> {
+    (record, answer.map(write))
+}
+
+/// Close and Counters have no field: phase first, then the length.
+fn within(record: Record, rest: &[u8], call: impl Fn(Record) -> After<Vec<u8>>) -> After<Vec<u8>> {
+    if record.phase != Phase::None && !rest.is_empty() {
+        return (record, Err(Refusal::Range));
+    }
+    call(record)
+}
+
+/// Cuts the input into lines, however it arrives. It keeps no more of a line than tells that it is too long.
+#[derive(Default)]
+pub struct Lines {
+    line: Vec<u8>,
+}
+
+impl Lines {
+    pub fn feed(&mut self, part: &[u8], mut each: impl FnMut(&[u8])) {
+        for &byte in part {
+            if byte == b'\n' {
+                each(&self.line);
+                self.line.clear();
+            } else if self.line.len() <= LONGEST {
+                self.line.push(byte);
+            }
+        }
+    }
+
+    /// A last line without a line feed counts unless empty.
+    pub fn end(self, mut each: impl FnMut(&[u8])) {
+        if !self.line.is_empty() {
+            each(&self.line);
+        }
+    }
+}
+
+/// The trace program: answers go out at the latest when a part of the input is used up.
+pub fn run(mut input: impl Read, mut output: impl Write, mut answer: impl FnMut(&[u8]) -> Answered) -> io::Result<()> {
+    let mut lines = Lines::default();
+    let mut part = [0; 65536];
+    let mut answers = String::new();
+    loop {
+        let count = match input.read(&mut part) {
+            Ok(count) => count,
+            Err(error) if error.kind() == io::ErrorKind::Interrupted => continue,
+            Err(error) => return Err(error),
+        };
+        if count == 0 {
+            break;
+        }
+        lines.feed(&part[..count], |line| push(&mut answers, &answer(line)));
+        output.write_all(answers.as_bytes())?;
+        output.flush()?;
+        answers.clear();
+    }
+    lines.end(|line| push(&mut answers, &answer(line)));
+    output.write_all(answers.as_bytes())?;
+    output.flush()
+}
+
+fn push(answers: &mut String, answer: &Answered) {
+    answers.push_str(&written(answer));
+    answers.push('\n');
+}
+
+/// All answers to a trace.
+pub fn answers(trace: &[u8]) -> Vec<u8> {
+    let mut output = vec![];
+    let mut clerk = Run::default();
+    run(trace, &mut output, |line| clerk.answer(line)).expect("memory");
+    output
+}
+
+#[cfg(test)]
+mod tests {
+    use super::*;
+
+    fn text(trace: &[u8]) -> String {
+        String::from_utf8(answers(trace)).unwrap()
+    }
+
+    fn personalise(counter: &str, mark: &str, block: &str) -> String {
+        format!("00{}{counter}{}{mark}{block}\n", "0".repeat(192), "0".repeat(16))
+    }
+
+    const PIN: &str = "241234ffffffffff";
+
+    #[test]
+    fn whole_case() {
+        let trace = format!("05\n\n{}01{}\n04\n05\n06\n", personalise("ffff", "00", PIN), "0".repeat(130));
+        assert_eq!(text(trace.as_bytes()), "06\n0d\n00\n07\n06\n00\n06\n");
+    }
+
+    #[test]
+    fn ends_of_lines() {
+        assert_eq!(text(b""), "");
+        assert_eq!(text(b"\n"), "0d\n");
+        assert_eq!(text(b"05"), "06\n");
+        assert_eq!(text(b"05\n0"), "06\n0d\n");
+        assert_eq!(text(b"05\r\n"), "0d\n");
+    }
+
+    #[test]
+    fn unreadable_lines() {
+        for line in ["", "0", "050", "0g", "0A", "05 ", " 05", "07", "ff", "0\x005"] {
+            assert_eq!(text(format!("{line}\n").as_bytes()), "0d\n", "{line}");
+        }
+        for high in 0x80..=0xff {
+            assert_eq!(text(&[b'0', b'5', high, high, b'\n']), "0d\n");
+        }
+        for (length, answer) in [(278, "06\n"), (279, "0d\n"), (280, "06\n"), (281, "0d\n"), (282, "0d\n"), (100_000, "0d\n")] {
+            let line = format!("03{}\n", "0".repeat(length - 2));
+            assert_eq!(text(line.as_bytes()), answer, "{length}");
+        }
+    }
+
+    #[test]
+    fn before_a_record() {
+        for first in 1..=6 {
+            for rest in [0, 1, 8, 12, 65, 139] {
+                let line = format!("{first:02x}{}\n", "00".repeat(rest));
+                assert_eq!(text(line.as_bytes()), "06\n");
+            }
+        }
+    }
+
+    #[test]
+    fn personalise_frames() {
+        let good = personalise("0000", "00", PIN);
+        assert_eq!(text(good.as_bytes()), "00\n");
+        assert_eq!(text(personalise("0000", "01", PIN).as_bytes()), "00\n");
+        assert_eq!(text(personalise("0000", "02", PIN).as_bytes()), "01\n");
+        assert_eq!(text(personalise("0000", "02", "2312ffffffffffff").as_bytes()), "01\n");
+        assert_eq!(text(personalise("0000", "00", "2312ffffffffffff").as_bytes()), "09\n");
+        assert_eq!(text(format!("00{good}").as_bytes()), "01\n");
+        assert_eq!(text(b"00\n"), "01\n");
+    }
+
+    #[test]
+    fn lengths_in_a_trace() {
+        let open = format!("01{}\n", "0".repeat(130));
+        let card = personalise("0000", "00", PIN);
+        assert_eq!(text(format!("{card}0400\n0600\n0500\n03\n02\n01\n").as_bytes()), "00\n06\n06\n01\n06\n06\n01\n");
+        let opened = format!("{card}{open}0400\n0600\n0500\n02\n04\n");
+        let answers = text(opened.as_bytes());
+        let answers: Vec<&str> = answers.lines().collect();
+        assert_eq!(answers[2..], ["01", "01", "01", "01", "00"]);
+        let spoilt = text(format!("{card}{open}030000\n04\n04\n").as_bytes());
+        assert!(spoilt.ends_with("\n01\n0a\n06\n"));
+    }
+
+    #[test]
+    fn a_second_personalise_frame_starts_a_new_history() {
+        let open = format!("01{}\n", "0".repeat(130));
+        let card = personalise("0000", "00", PIN);
+        let refused = personalise("0000", "00", "ffffffffffffffff");
+        let answers = text(format!("{card}{open}{refused}{open}{card}04\n{open}").as_bytes());
+        let answers: Vec<&str> = answers.lines().collect();
+        assert_eq!(answers[2..6], ["09", "06", "00", "06"]);
+        assert_eq!(answers[1], answers[6]);
+    }
+
+    #[test]
+    fn cut_anyhow_the_lines_are_the_same() {
+        let input: &[u8] = b"05\n\n0400\nzz\n05";
+        for cut in 0..=input.len() {
+            let mut lines = Lines::default();
+            let mut seen = vec![];
+            lines.feed(&input[..cut], |line| seen.push(line.to_vec()));
+            lines.feed(&input[cut..], |line| seen.push(line.to_vec()));
+            lines.end(|line| seen.push(line.to_vec()));
+            assert_eq!(seen, [&b"05"[..], b"", b"0400", b"zz", b"05"]);
+        }
+    }
+}

@@ -1,0 +1,236 @@
+/* Makes the calls that it reads on standard input, one a line, and compares the number and every lent byte with what the line says. Each string
+ * lies between canaries, and an input is compared with a copy.
+ *    NAME NUMBER WORDS...   a word for each argument: digits for a string, - for an empty one, null for none; digits for a number;
+ *                           two for a lent output, before and after the call
+ * It ends with a table of how often each number came of each function. With the word `all` a number that box.h names and that never came is a
+ * failure. Functions beneath the library (hash, hmac) are left out and counted. */
+#include "box.h"
+
+#include <stdio.h>
+#include <stdlib.h>
+#include <string.h>
+
+enum { CANARY = 0xc5, MARGIN = 24, WORDS = 12, ARGUMENTS = 6, NUMBERS = 13, LONGEST = 1 << 20 };
+
+static unsigned long line_number;
+
+static void fail(const char *what) {
+    printf("calls-test: FAILED in line %lu: %s\n", line_number, what);
+    exit(1);
+}
+
+/* A string between canaries, with the bytes that it must hold after the call; or a number. */
+struct argument {
+    uint8_t *room, *at, *after;
+    size_t length;
+    uint64_t number;
+};
+
+/* A string as pointer and length, a lent one too. */
+#define S(i) a[i].at, a[i].length
+#define BYTE(i) ((uint8_t)a[i].number)
+#define COUNTER(i) ((uint16_t)a[i].number)
+
+static uint8_t encipher(struct argument *a) { return box_encipher(S(0), S(1), S(2)); }
+static uint8_t decipher(struct argument *a) { return box_decipher(S(0), S(1), S(2)); }
+static uint8_t code(struct argument *a) { return box_code(S(0), S(1), S(2)); }
+static uint8_t derive(struct argument *a) { return box_derive(S(0), S(1), S(2)); }
+static uint8_t card_key(struct argument *a) { return box_card_key(S(0), S(1), BYTE(2), S(3)); }
+static uint8_t card_key_packed(struct argument *a) { return box_card_key_packed(S(0), S(1), BYTE(2), S(3)); }
+static uint8_t session_key(struct argument *a) { return box_session_key(S(0), COUNTER(1), S(2)); }
+static uint8_t script_key(struct argument *a) { return box_script_key(S(0), S(1), S(2)); }
+static uint8_t counter_key(struct argument *a) { return box_counter_key(S(0), S(1)); }
+static uint8_t idn(struct argument *a) { return box_idn(S(0), COUNTER(1), S(2)); }
+static uint8_t write_pin(struct argument *a) { return box_write_pin(S(0), S(1)); }
+static uint8_t read_pin(struct argument *a) { return box_read_pin(S(0), S(1)); }
+static uint8_t cryptogram(struct argument *a) { return box_cryptogram(S(0), BYTE(1), COUNTER(2), S(3), S(4)); }
+static uint8_t arpc(struct argument *a) { return box_arpc(S(0), S(1), S(2), S(3)); }
+static uint8_t wrap(struct argument *a) { return box_wrap(S(0), S(1), BYTE(2), S(3), S(4), (size_t)a[5].number); }
+static uint8_t open_message(struct argument *a) { return box_open(S(0), S(1), S(2), S(3)); }
+
+/* s: a string, o: a lent output, n: a number. */
+struct function {
+    const char *name, *takes;
+    int refusals[3];
+    uint8_t (*call)(struct argument *);
+};
+
+static const struct function functions[] = {
+    {"box_encipher", "sso", {1}, encipher},
+    {"box_decipher", "sso", {1}, decipher},
+    {"box_code", "sso", {1}, code},
+    {"box_derive", "sso", {1}, derive},
+    {"box_card_key", "ssno", {1, 2}, card_key},
+    {"box_card_key_packed", "ssno", {1, 2}, card_key_packed},
+    {"box_session_key", "sno", {1}, session_key},
+    {"box_script_key", "sso", {1}, script_key},
+    {"box_counter_key", "so", {1}, counter_key},
+    {"box_idn", "sno", {1}, idn},
+    {"box_write_pin", "so", {1, 12}, write_pin},
+    {"box_read_pin", "so", {1, 9}, read_pin},
+    {"box_cryptogram", "snnso", {1}, cryptogram},
+    {"box_arpc", "ssso", {1}, arpc},
+    {"box_wrap", "ssnson", {1, 3}, wrap},
+    {"box_open", "ssso", {1, 4, 8}, open_message},
+};
+
+enum { FUNCTIONS = sizeof functions / sizeof functions[0] };
+
+static unsigned long counts[FUNCTIONS][NUMBERS];
+static unsigned long calls, left_out;
+
+static const struct function *find(const char *name) {
+    size_t i;
+    for (i = 0; i < FUNCTIONS; i++)
+        if (strcmp(functions[i].name, name) == 0) return &functions[i];
+    if (strcmp(name, "hash") == 0 || strcmp(name, "hmac") == 0) return NULL;
+    fail("no such function");
+    return NULL;
+}
+
+static unsigned digit(char sign) {
+    if (sign >= '0' && sign <= '9') return (unsigned)(sign - '0');
+    if (sign >= 'a' && sign <= 'f') return (unsigned)(sign - 'a') + 10;
+    fail("not a digit");
+    return 0;
+}
+
+static void read_bytes(const char *word, uint8_t *to, size_t length) {
+    size_t i;
+    for (i = 0; i < length; i++) to[i] = (uint8_t)(digit(word[2 * i]) << 4 | digit(word[2 * i + 1]));
+}
+
+static size_t length_of(const char *word) {
+    size_t signs = strlen(word);
+    if (strcmp(word, "-") == 0) return 0;
+    if (signs % 2 != 0) fail("odd number of digits");
+    return signs / 2;
+}
+
+/* The string of a word. It starts at a place of its own in its room, so that no alignment is taken for granted. */
+static struct argument lend(const char *word, const char *after) {
+    struct argument a = {NULL, NULL, NULL, 0, 0};
+    size_t shift = line_number % 8;
+    if (strcmp(word, "null") == 0) return a;
+    a.length = length_of(word);
+    if (length_of(after) != a.length) fail("lengths before and after differ");
+    a.room = malloc(a.length + 2 * MARGIN);
+    a.after = malloc(a.length + 1);
+    if (a.room == NULL || a.after == NULL) fail("no memory");
+    memset(a.room, CANARY, a.length + 2 * MARGIN);
+    a.at = a.room + MARGIN - shift;
+    read_bytes(word, a.at, a.length);
+    read_bytes(after, a.after, a.length);
+    return a;
+}
+
+static struct argument count_of(const char *word) {
+    struct argument a = {NULL, NULL, NULL, 0, 0};
+    for (; *word != '\0'; word++) a.number = a.number << 4 | digit(*word);
+    return a;
+}
+
+/* The canaries stand and the string holds what it must; its room is given back. */
+static void back(struct argument *a, const char *name) {
+    const uint8_t *sign;
+    if (a->room == NULL) return;
+    for (sign = a->room; sign < a->room + a->length + 2 * MARGIN; sign++)
+        if ((sign < a->at || sign >= a->at + a->length) && *sign != CANARY) fail("a byte beside a string was written");
+    if (memcmp(a->at, a->after, a->length) != 0) {
+        printf("calls-test: %s left other bytes\n", name);
+        fail("bytes differ");
+    }
+    free(a->room);
+    free(a->after);
+}
+
+static size_t split(char *line, char **words) {
+    size_t count = 0;
+    char *word;
+    for (word = strtok(line, " \n"); word != NULL; word = strtok(NULL, " \n")) {
+        if (count == WORDS) fail("too many words");
+        words[count++] = word;
+    }
+    return count;
+}
+
+static void make(const struct function *f, char **words, size_t count) {
+    struct argument a[ARGUMENTS];
+    size_t i, next = 2, arguments = strlen(f->takes);
+    unsigned long wanted = strtoul(words[1], NULL, 10);
+    uint8_t got;
+    if (count != 2 + arguments + 1) fail("wrong number of words");
+    for (i = 0; i < arguments; i++) {
+        char *word = words[next++];
+        if (f->takes[i] == 'n') a[i] = count_of(word);
+        else a[i] = lend(word, f->takes[i] == 'o' ? words[next++] : word);
+    }
+    got = f->call(a);
+    if (got != wanted || got >= NUMBERS) {
+        printf("calls-test: %s returned %u, not %lu\n", f->name, got, wanted);
+        fail("number differs");
+    }
+    for (i = 0; i < arguments; i++)
+        if (f->takes[i] != 'n') back(&a[i], f->name);
+    counts[f - functions][got]++;
+    calls++;
+}
+
+static int named(const struct function *f, int number) {
+    return number == 0 || f->refusals[0] == number || f->refusals[1] == number || f->refusals[2] == number;
+}
+
+static int came(size_t i) {
+    size_t number;
+    for (number = 0; number < NUMBERS; number++)
+        if (counts[i][number] > 0) return 1;
+    return 0;
+}
+
+/* The table, of the functions that were called or of all; returns how many numbers that box.h names never came. */
+static int report(int all) {
+    static const int columns[] = {0, 1, 2, 3, 4, 8, 9, 12};
+    size_t i, j;
+    int missing = 0;
+    printf("%-20s", "");
+    for (j = 0; j < sizeof columns / sizeof columns[0]; j++) printf("%6d", columns[j]);
+    printf("\n");
+    for (i = 0; i < FUNCTIONS; i++) {
+        if (!all && !came(i)) continue;
+        printf("%-20s", functions[i].name);
+        for (j = 0; j < sizeof columns / sizeof columns[0]; j++) {
+            unsigned long count = counts[i][columns[j]];
+            if (count > 0) printf("%6lu", count);
+            else printf("%6s", all && named(&functions[i], columns[j]) ? "NONE" : "");
+            missing += count == 0 && named(&functions[i], columns[j]);
+        }
+        printf("\n");
+    }
+    printf("%lu calls as computed", calls);
+    if (left_out > 0) printf(", %lu lines left out, not in the library", left_out);
+    printf("\n");
+    return missing;
+}
+
+int main(int argc, char **argv) {
+    char *line = malloc(LONGEST);
+    char *words[WORDS];
+    int all = argc == 2 && strcmp(argv[1], "all") == 0;
+    int missing;
+    if (line == NULL) fail("no memory");
+    while (fgets(line, LONGEST, stdin) != NULL) {
+        size_t count;
+        const struct function *f;
+        line_number++;
+        if (strchr(line, '\n') == NULL) fail("line too long or torn");
+        count = split(line, words);
+        if (count < 3) fail("too few words");
+        f = find(words[0]);
+        if (f == NULL) left_out++;
+        else make(f, words, count);
+    }
+    missing = report(all);
+    if (calls == 0 || (all && missing > 0)) fail("a number never came");
+    free(line);
+    return 0;
+}

@@ -568,7 +568,8 @@ impl Card {
         if !is_sound(self) {
             return plainly(self, 1);
         }
-        self.transaction = no_transaction();
+        let rest = no_transaction();
+        self.transaction = rest;
         plainly(self, 0)
     }
 

@@ -50,7 +50,7 @@ uint8_t box_code(const uint8_t *key, size_t key_length, const uint8_t *string, s
 /* The key derived from a key of 32 bytes and a seed of 8, under the label of card keys. out: 32. Refusal 1. */
 uint8_t box_derive(const uint8_t *key, size_t key_length, const uint8_t *seed, size_t seed_length, uint8_t *out, size_t out_length);
 
-/* The card master key of an issuer master key of 32 bytes, a card number (one digit, 0 to 9, a byte) and a sequence number (0: none).
+/* The card master key of an issuer master key of 32 bytes, a card number (one digit a byte, the values 0 to 9 and not characters) and a sequence number (0: none).
  * Each pair of card digits is one byte of the seed, its number 0 to 99. out: 32. Refusals 1, 2. */
 uint8_t box_card_key(const uint8_t *issuer, size_t issuer_length, const uint8_t *pan, size_t pan_length, uint8_t sequence, uint8_t *out, size_t out_length);
 
@@ -70,7 +70,7 @@ uint8_t box_counter_key(const uint8_t *session, size_t session_length, uint8_t *
 /* The IDN of out_length bytes, 2 to 8, from the IDN key of 32 bytes and the transaction counter. Refusal 1. */
 uint8_t box_idn(const uint8_t *key, size_t key_length, uint16_t counter, uint8_t *out, size_t out_length);
 
-/* A PIN block in clear: pin has 4 to 12 digits, one a byte. out: 8. Refusals 1 (out), 12. */
+/* A PIN block in clear: pin has 4 to 12 digits, one a byte, the values 0 to 9 and not characters. out: 8. Refusals 1 (out), 12. */
 uint8_t box_write_pin(const uint8_t *pin, size_t pin_length, uint8_t *out, size_t out_length);
 
 /* A PIN block in clear, of 8 bytes, taken apart. out: 13, the number of digits and then twelve places, zeros after the digits. Refusals 1, 9. */

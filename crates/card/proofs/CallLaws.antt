@@ -321,22 +321,8 @@ judge-data m o t p n e f =
     ap₂ {C = List ℕ} (λ x y. take x (drop y m)) (add-sub-cancel-left p n ∙ w .the-length) (w .the-place)
 
 -- personalisation
-abbrev blankWith : Transaction → Card
-blankWith t =
-    record {
-      ac = replicate 32 0;
-      smi = replicate 32 0;
-      smc = replicate 32 0;
-      pin = replicate 12 0;
-      count = 0;
-      mark = false;
-      atc = 0;
-      counters = record { session = 0; failures = 0; decipherments = 0; authentications = 0 };
-      transaction = t;
-    }
-
-pub blank-by : (t : Transaction) → t ≡ none → blankWith t ≡ blank
-blank-by t e = ap blankWith e
+pub blank-by : (t : Transaction) → t ≡ none → withTransaction blank t ≡ blank
+blank-by t e = ap (withTransaction blank) e
 
 module _ (ac smi smc : List ℕ) (atc : ℕ) (counters : List ℕ) (mark : ℕ) (block : List ℕ) (a : Reply) where
   abbrev with : PinRead → CounterStruct → Transaction → Card

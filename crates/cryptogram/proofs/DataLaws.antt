@@ -1,6 +1,6 @@
 -- The places that table 1 gives, and the strings under the codes. Assumes nothing.
 use mathlib.Core.Path.{_≡_, refl, sym, ap, ap₂, _∙_}
-use mathlib.Core.List.{List, [], _∷_, _++_}
+use mathlib.Core.List.{List, [], _∷_, _++_, map}
 use Prim.Native.Nat.{ℕ}
 use native.Mathlib.Omega.{arith}
 use lib.ListN.{length, getD, set, replicate, List·getD-append, length-set}
@@ -8,20 +8,29 @@ use lib.Seq.{sets, set-append-left, getD-set-other}
 use Rattle.octets.specs.Numbers.{beOctets, leOctets}
 use Rattle.octets.proofs.Parts.{elements, elements-all}
 use Rattle.cryptogram.specs.declared.Kind.{Kind}
-use Rattle.cryptogram.specs.Data.{width, widths, beforeCounter, counterPlace, issuerPlace, dataLength, kindPlace, marked, cardData}
+use Rattle.cryptogram.specs.Data.{width, widths, fields, row, place, counterPlace, issuerPlace, dataLength, kindPlace, marked, cardData}
 use Rattle.cryptogram.specs.Cryptogram.{twice, string, arpcString}
+
+-- table 1: each field stands in its row, and at its place
+pub places : map place fields ≡ 0 ∷ 6 ∷ 12 ∷ 14 ∷ 19 ∷ 21 ∷ 24 ∷ 25 ∷ 29 ∷ 31 ∷ 33 ∷ []
+unfolding place row fields widths width
+places = refl
+
+pub rows : map row fields ≡ 0 ∷ 1 ∷ 2 ∷ 3 ∷ 4 ∷ 5 ∷ 6 ∷ 7 ∷ 8 ∷ 9 ∷ 10 ∷ []
+unfolding row fields
+rows = refl
 
 -- 01: "its own counter at offsets 31 and 32", the kind "at offset 36", of 65 data bytes
 pub counter-place : counterPlace ≡ 31
-unfolding counterPlace widths width beforeCounter
+unfolding counterPlace place row fields widths width
 counter-place = refl
 
 pub kind-place : kindPlace ≡ 36
-unfolding kindPlace issuerPlace counterPlace widths width beforeCounter
+unfolding kindPlace issuerPlace place row fields widths width
 kind-place = refl
 
 pub data-length : dataLength ≡ 65
-unfolding dataLength issuerPlace counterPlace widths width beforeCounter
+unfolding dataLength widths width fields
 data-length = refl
 
 -- stores in the data, made in the string
@@ -44,7 +53,7 @@ module _ (d p : List ℕ) (e : length d ≡ 65) (x y : ℕ) where
 pub string-made : (kind : Kind) (atc : ℕ) (d : List ℕ) → length d ≡ 65 → (c : List ℕ) → c ≡ beOctets 2 atc → (s : List ℕ) → s ≡ d ++ 0x80 ∷ replicate 6 0
     → (m : ℕ) → m ≡ marked kind (getD (set (set s 31 (getD c 0 0)) 32 (getD c 1 0)) 36 0)
     → set (set (set s 31 (getD c 0 0)) 32 (getD c 1 0)) 36 m ≡ string kind atc d
-unfolding string cardData beOctets leOctets kindPlace issuerPlace counterPlace widths width beforeCounter
+unfolding string cardData beOctets leOctets kindPlace issuerPlace counterPlace place row fields widths width
 string-made kind atc d e c ec s es m em =
     let p : List ℕ = 0x80 ∷ replicate 6 0 in
     let x = getD c 0 0 in
@@ -72,7 +81,7 @@ unfolding marked
 marked-over kind kind′ b = omega arith
 
 pub overwritten : (kind kind′ : Kind) (atc atc′ : ℕ) (d : List ℕ) → length d ≡ 65 → cardData kind atc (cardData kind′ atc′ d) ≡ cardData kind atc d
-unfolding cardData beOctets leOctets kindPlace issuerPlace counterPlace widths width beforeCounter
+unfolding cardData beOctets leOctets kindPlace issuerPlace counterPlace place row fields widths width
 overwritten kind kind′ atc atc′ d e =
     ap (λ (s : List ℕ). cardData kind atc (cardData kind′ atc′ s)) (elements-all d 65 e)
     ∙ ap (λ (m : ℕ). set (sets (elements d 0 0 65) 31 (beOctets 2 atc)) 36 m) (marked-over kind kind′ (getD d 36 0))

@@ -1,7 +1,7 @@
 -- The data D of a cryptogram (001, table 1), and what the card writes into it (01, Cryptograms). Assumes nothing.
 use Prim.Native.Nat.{ℕ, _+_, _*_, _%_}
 use mathlib.Core.List.{List, [], _∷_}
-use lib.ListN.{getD, set}
+use lib.ListN.{getD, set, take}
 use lib.Seq.{sets}
 use Rattle.octets.specs.Numbers.{beOctets}
 use Rattle.cryptogram.specs.declared.Kind.{Kind}
@@ -38,20 +38,37 @@ unfoldable pub widths : List Field → ℕ
 widths [] = 0
 widths (f ∷ fs) = width f + widths fs
 
--- the table's order: the fields before the counter, then the counter, then the issuer's data
-unfoldable pub beforeCounter : List Field
-beforeCounter =
+-- the table's order, and a field's row in it
+unfoldable pub fields : List Field
+fields =
     amountAuthorised ∷ amountOther ∷ terminalCountryCode ∷ terminalVerificationResults ∷ transactionCurrencyCode ∷ transactionDate
-    ∷ transactionType ∷ unpredictableNumber ∷ applicationInterchangeProfile ∷ []
+    ∷ transactionType ∷ unpredictableNumber ∷ applicationInterchangeProfile ∷ applicationTransactionCounter ∷ issuerApplicationData ∷ []
+
+unfoldable pub row : Field → ℕ
+row amountAuthorised = 0
+row amountOther = 1
+row terminalCountryCode = 2
+row terminalVerificationResults = 3
+row transactionCurrencyCode = 4
+row transactionDate = 5
+row transactionType = 6
+row unpredictableNumber = 7
+row applicationInterchangeProfile = 8
+row applicationTransactionCounter = 9
+row issuerApplicationData = 10
+
+-- a field's place in the data: after the fields of the rows above it
+unfoldable pub place : Field → ℕ
+place f = widths (take (row f) fields)
 
 unfoldable pub counterPlace : ℕ
-counterPlace = widths beforeCounter
+counterPlace = place applicationTransactionCounter
 
 unfoldable pub issuerPlace : ℕ
-issuerPlace = counterPlace + width applicationTransactionCounter
+issuerPlace = place issuerApplicationData
 
 unfoldable pub dataLength : ℕ
-dataLength = issuerPlace + width issuerApplicationData
+dataLength = widths fields
 
 -- the kind stands in the fourth byte of the issuer's data
 unfoldable pub kindPlace : ℕ

@@ -63,7 +63,7 @@ pub data Judgment : Type 0 where
   refuse : Refusal → Judgment
   accept : Judgment
 
--- Open: 6, 1, 7
+-- Open: 6, 1, 7, after 1 for an unsound record
 unfoldable pub opening : Card → List ℕ → Judgment
 opening r d =
     first
@@ -106,7 +106,7 @@ openAs r d accept =
       bytes = cryptogramFor (grown r) d;
     }
 
--- Issuer answer: 6, 1, 11. "in an open ARQC transaction"
+-- Issuer answer: 6, 1, 11, after 1 for an unsound record. "in an open ARQC transaction"
 abbrev pub isArqc : Phase → Bool
 isArqc Idle = false
 isArqc Arqc = true
@@ -150,7 +150,7 @@ formatFits SetPin x = eqb (x .code) 0
 formatFits SetMark x = true
 formatFits ClearMark x = true
 
--- Script: 6, 1 (header), 4, 5, 7, 8, 9. "Every refusal of this call in an open transaction sets the spoilt mark."
+-- Script: 6, 1 (header), 4, 5, 7, 8, 9, after 1 for an unsound record. "Every refusal of this call in an open transaction sets the spoilt mark."
 pub data Verdict : Type 0 where
   refuses : Refusal → Verdict
   spoils : Refusal → Verdict
@@ -202,7 +202,7 @@ scriptAs r differs =
     plain (withTransaction (withCounters r (r .atc) (oneFailed (r .counters))) (spoilt (r .transaction))) (number codeDiffers)
 scriptAs r (takes o) = plain (withTransaction r (pend (r .transaction) o)) 0
 
--- Close: 6, 1, 10
+-- Close: 6, 1, 10; 1 is an unsound record here, and in a trace a wrong frame length
 pub data Closing : Type 0 where
   stays : Refusal → Closing
   drops : Closing
@@ -233,7 +233,7 @@ closeAs r (stays q) = plain r (number q)
 closeAs r drops = plain (withTransaction r none) (number spoiltClosed)
 closeAs r closes = plain (withTransaction (withKept r (laid (r .transaction) (kept r))) none) 0
 
--- Withdraw: 1. "drops what is pending and ends the transaction"
+-- Withdraw: 1, an unsound record. "drops what is pending and ends the transaction"
 unfoldable pub withdrawing : Card → Judgment
 withdrawing r = first (strikes (not (sound r)) (refuse input) ∷ []) accept
 
@@ -241,7 +241,7 @@ abbrev pub withdrawAs : Card → Judgment → Reply
 withdrawAs r (refuse q) = plain r (number q)
 withdrawAs r accept = plain (withTransaction r none) 0
 
--- Counters: 6, 1. "the enciphered counter block, in an open transaction. Changes nothing."
+-- Counters: 6, 1, as for Close. "the enciphered counter block, in an open transaction. Changes nothing."
 unfoldable pub counting : Card → Judgment
 counting r =
     first

@@ -9,7 +9,7 @@ use Rattle.pin.specs.Answers.{readBlock}
 use Rattle.card.specs.declared.Card.{Card}
 use Rattle.card.specs.declared.Reply.{Reply}
 use Rattle.card.specs.Record.{none}
-use Rattle.card.specs.Calls.{Refusal, input, pinFormat, number, strikes, first, plain}
+use Rattle.card.specs.Calls.{input, pinFormat, number, strikes, first, plain}
 
 -- no record: it has no PIN, so every call refuses it
 abbrev pub blank : Card

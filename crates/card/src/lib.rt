@@ -11,7 +11,7 @@ ghost use Rattle.pin.specs.Answers.{decipherPin};
 ghost use Rattle.message.specs.Shape.{dataOf};
 ghost use Rattle.message.specs.declared.command.Command.the-variants.{SetPin};
 ghost use Rattle.message.specs.declared.command.Listed.the-variants.{One};
-ghost use Rattle.card.specs.Record.{isOpen, isUnmarked, none, pendingFits, restFits, sound, Kept, kept, withTransaction, withKept, spoilt as spoiltOf};
+ghost use Rattle.card.specs.Record.{isOpen, isUnmarked, none, pendingFits, restFits, sound, kept, withTransaction, withKept, spoilt as spoiltOf};
 ghost use Rattle.card.specs.Keys.{sessionKeyOf, smiKey, smcKey};
 ghost use Rattle.card.specs.Calls.{plain, kindFor, phaseFor, isArqc, arpcFor, countersFor, begun as begunAs, openAs, accept, newMark, takes, scriptAs, forCommand, inOpen, markFor, markAfter, laid, step, Open, IssuerAnswer, Script, Close, Withdraw, Counters as CountersCall};
 ghost use Rattle.card.specs.Inner.{lastCheck};
@@ -540,7 +540,7 @@ impl Card {
         judge(self, header, message)
     }
 
-    // Close: 6, 10. What is pending becomes what is kept, or is dropped.
+    // Close: 6, 1, 10. What is pending becomes what is kept, or is dropped.
     pub fn close(mut self) -> Reply
         ensures { λ r. ⌜ r ≡ step self Close ⌝ }
     {
@@ -573,7 +573,7 @@ impl Card {
         plainly(self, 0)
     }
 
-    // Counters: 6. The enciphered counter block.
+    // Counters: 6, 1. The enciphered counter block.
     pub fn counter_block(self) -> Reply
         ensures { λ r. ⌜ r ≡ step self CountersCall ⌝ }
     {

@@ -26,7 +26,7 @@ use Rattle.card.specs.Calls.{Verdict, refuses, spoils, differs, takes, orderOf,
 use Rattle.card.specs.Calls.{Closing, stays, drops, closes, closing, closeAs}
 use Rattle.card.specs.Calls.{Call, Open, IssuerAnswer, Script, Close, Withdraw, Counters, step}
 use Rattle.history.specs.Run.{frame}
-use Rattle.history.specs.Demand2.{Accepts, ordered}
+use Rattle.history.specs.Demand2.{Accepts, Differs, ordered}
 use Rattle.history.specs.Decides.{no-command}
 
 -- the calls whose refusals change nothing, and end nothing
@@ -46,7 +46,7 @@ pub data Change (r : Card) : Call → Reply → Type 0 where
   opened : {d : List ℕ} → isOpen (r .transaction .phase) ≡ false → Change r (Open d) (openAs r d accept)
   answered : {x u : List ℕ} → isOpen (r .transaction .phase) ≡ true → Change r (IssuerAnswer x u) (answerAs r accept)
   spoiled : {h m : List ℕ} (q : Refusal) → isOpen (r .transaction .phase) ≡ true → eqb (number q) 8 ≡ false → (Accepts r h m → ⊥) → Change r (Script h m) (scriptAs r (spoils q))
-  differed : {h m : List ℕ} → isOpen (r .transaction .phase) ≡ true → (Accepts r h m → ⊥) → Change r (Script h m) (scriptAs r differs)
+  differed : {h m : List ℕ} → Differs r h m → (Accepts r h m → ⊥) → Change r (Script h m) (scriptAs r differs)
   took : {h m : List ℕ} (a : Accepts r h m) → Change r (Script h m) (scriptAs r (takes (ordered a)))
   dropped : isOpen (r .transaction .phase) ≡ true → r .transaction .spoilt ≡ true → Change r Close (closeAs r drops)
   closed : isOpen (r .transaction .phase) ≡ true → r .transaction .spoilt ≡ false → Change r Close (closeAs r closes)
@@ -110,7 +110,9 @@ module _ (r : Card) (ok : sound r ≡ true) where
         go : (f k p : Bool) → eqb (r .counters .failures) 65535 ≡ f → codeFits (smiKey r) h m ≡ k → formatFits c (pinIn r m) ≡ p
             → Change r (Script h m) (scriptAs r (first (strikes f (spoils counterFull) ∷ strikes (not k) differs ∷ strikes (not p) (spoils pinFormat) ∷ []) (takes (orderOf c (pinIn r m)))))
         go true k p ef ek ep = spoiled counterFull o refl (λ a. a .counter (eqb-true _ _ ef))
-        go false false p ef ek ep = differed o (λ a. false≢true (sym ek ∙ a .code))
+        go false false p ef ek ep =
+            differed (record { sound = ok; phase = o; header = l; shape = x; command = c; instruction = e; counter = eqb-false _ _ ef; code = ek })
+            (λ a. false≢true (sym ek ∙ a .code))
         go false true false ef ek ep = spoiled pinFormat o refl (λ a. let z : One c ≡ One (a .command) = sym e ∙ a .instruction in let y : c ≡ a .command = cc in false≢true (sym ep ∙ rw y (a .format)))
         go false true true ef ek ep =
             took (record { sound = ok; phase = o; header = l; shape = x; command = c; instruction = e; counter = eqb-false _ _ ef; code = ek; format = ep })

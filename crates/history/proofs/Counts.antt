@@ -11,7 +11,8 @@ use Rattle.card.specs.declared.Card.{Card}
 use Rattle.card.specs.declared.Reply.{Reply}
 use Rattle.card.specs.Record.{sound}
 use Rattle.card.specs.Calls.{Refusal, number, Call, Open, IssuerAnswer, Script, Close, Withdraw, Counters}
-use Rattle.history.specs.Run.{box, run, Entry, did, entry, History, history, frame, was, opened as isOpened, answered as isAnswered, failed as isFailed}
+use Rattle.history.proofs.Own.{box, history, run}
+use Rattle.history.specs.Run.{Entry, did, entry, History, frame, was, opened as isOpened, answered as isAnswered, failed as isFailed}
 use Rattle.history.specs.Demand3.{Fresh, one, howMany, some, afterLast, AtcLaw, FailuresLaw, SessionLaw}
 use Rattle.history.proofs.Change.{mild, Change, change, quiet, idle, early, counted, opened, answered, spoiled, differed, took, dropped, closed, withdrew}
 use Rattle.history.proofs.Accepted.{not-zero}
@@ -117,11 +118,11 @@ session-run r (c ∷ cs) s =
     session-list (entry c (box r c)) (history (box r c .card) cs) (r .counters .session) (box r c .card .counters .session) _ (session-step (change r s c))
     (session-run (box r c .card) cs (keeps s (change r s c)))
 
-pub atc-law : AtcLaw
+pub atc-law : AtcLaw box
 atc-law r cs f = atc-run r cs (fresh-law r f)
 
-pub failures-law : FailuresLaw
+pub failures-law : FailuresLaw box
 failures-law r cs f = failures-run r cs (fresh-law r f)
 
-pub session-law : SessionLaw
+pub session-law : SessionLaw box
 session-law r cs f = session-run r cs (fresh-law r f)

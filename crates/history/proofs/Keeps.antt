@@ -2,12 +2,13 @@
 use Prim.Native.Nat.{ℕ}
 use mathlib.Core.Path.{_≡_, refl, sym, ap, subst, _∙_}
 use mathlib.Core.List.{List, [], _∷_}
-use mathlib.Core.Bool.{Bool, true, false, _&&_, cond, and-eq-true-iff}
+use mathlib.Core.Bool.{Bool, true, false, not, _&&_, cond, and-eq-true-iff, true≢false, false≢true}
 use lib.Dec.{leb, eqb}
 use lib.ListN.{replicate}
 use native.Mathlib.Omega.{arith}
 use borrow.Author.Tests.{eqb-true, eqb-false, ne-eqb, leb-true}
 use Rattle.octets.specs.Same.{same}
+use Rattle.octets.proofs.SameLaws.{same-true}
 use Rattle.message.specs.declared.command.Command.{Command}
 use Rattle.message.specs.declared.command.Command.the-variants.{SetPin, SetMark, ClearMark}
 use Rattle.pin.specs.declared.PinRead.{PinRead}
@@ -16,17 +17,20 @@ use Rattle.pin.specs.Answers.{readBlock, decipherPin}
 use Rattle.pin.proofs.BlockLaws.{fits}
 use Rattle.pin.proofs.FoundLaws.{read-fits, deciphered-fits}
 use Rattle.card.specs.declared.Phase.{Phase}
+use Rattle.card.specs.declared.Phase.the-variants.{Idle, Arqc, Aac}
+use Rattle.card.specs.declared.PendingMark.{PendingMark}
+use Rattle.card.specs.declared.PendingMark.the-variants.{Nothing, Set, Clear}
 use Rattle.card.specs.declared.Transaction.{Transaction}
 use Rattle.card.specs.declared.Card.{Card}
 use Rattle.card.specs.declared.Reply.{Reply}
-use Rattle.card.specs.Record.{isOpen, none, pendingFits, restFits, sound, kept, withTransaction, withKept}
+use Rattle.card.specs.Record.{isOpen, isUnmarked, none, pendingFits, restFits, sound, kept, withTransaction, withKept}
 use Rattle.card.specs.Keys.{smcKey}
 use Rattle.card.specs.Calls.{Order, newPin, newMark, orderOf, formatFits, pinIn, pend, laid, opening, answering, judged, closing, withdrawing, counting, plain}
 use Rattle.card.specs.Calls.{phaseFor, Call, Open, IssuerAnswer, Script, Close, Withdraw, Counters}
 use Rattle.card.specs.Personalise.{blank, fresh, personalised}
-use Rattle.history.specs.Run.{box, run}
+use Rattle.history.proofs.Own.{box, run}
 use Rattle.history.specs.Demand2.{Accepts, ordered}
-use Rattle.history.specs.Demand3.{Fresh, UnsoundLaw, SoundLaw, FreshLaw}
+use Rattle.history.specs.Demand3.{Fresh, UnsoundLaw, SoundLaw, FreshLaw, WithdrawnIdle}
 use Rattle.history.proofs.Change.{Change, change, quiet, idle, early, counted, opened, answered, spoiled, differed, took, dropped, closed, withdrew}
 
 and : {a b : Bool} → a ≡ true → b ≡ true → (a && b) ≡ true
@@ -106,13 +110,13 @@ keeps {r} s counted = s
 keeps {r} s (opened e) = whole _ (record { pinned = parts r s .pinned; pended = refl; rested = open-rests _ (phase-open (r .mark)) })
 keeps {r} s (answered e) = whole _ (record { pinned = parts r s .pinned; pended = parts r s .pended; rested = parts r s .rested })
 keeps {r} s (spoiled q e n f) = whole _ (record { pinned = parts r s .pinned; pended = parts r s .pended; rested = open-rests _ e })
-keeps {r} s (differed e f) = whole _ (record { pinned = parts r s .pinned; pended = parts r s .pended; rested = open-rests _ e })
+keeps {r} s (differed w f) = whole _ (record { pinned = parts r s .pinned; pended = parts r s .pended; rested = open-rests _ (w .phase) })
 keeps {r} s (took a) = whole _ (pend-sound r (ordered a) (parts r s) (a .phase) (order-fit a))
 keeps {r} s (dropped e p) = resting r (parts r s .pinned)
 keeps {r} s (closed e p) = resting (withKept r (laid (r .transaction) (kept r))) (laid-fits r (parts r s))
 keeps {r} s withdrew = resting r (parts r s .pinned)
 
-pub sound-law : SoundLaw
+pub sound-law : SoundLaw box
 sound-law r [] s = s
 sound-law r (c ∷ cs) s = sound-law (box r c .card) cs (keeps s (change r s c))
 
@@ -138,7 +142,7 @@ fresh-made r f = go (leb (f .mark) 1) (eqb (readBlock (f .block) .code) 0) refl 
 pub fresh-law : FreshLaw
 fresh-law r f = let m = fresh-made r f in ap (λ (t : Transaction). sound (withTransaction r t)) (m .rested) ∙ resting r (m .pinned)
 
-pub unsound-law : UnsoundLaw
+pub unsound-law : UnsoundLaw box
 unfolding opening answering judged closing withdrawing counting
 unsound-law r (Open d) e = rw e
 unsound-law r (IssuerAnswer x u) e = rw e
@@ -146,3 +150,36 @@ unsound-law r (Script h m) e = rw e
 unsound-law r Close e = rw e
 unsound-law r Withdraw e = rw e
 unsound-law r Counters e = rw e
+
+-- with none open, a sound record has no transaction, and a withdrawal changes nothing
+none-by : (p : Phase) (g q : List ℕ) (n : ℕ) (m : PendingMark) (t : Bool) → p ≡ Idle → g ≡ replicate 8 0 → q ≡ replicate 12 0 → n ≡ 0 → m ≡ Nothing → t ≡ false
+    → record { phase = p; cryptogram = g; pin = q; count = n; mark = m; spoilt = t } ≡ none
+none-by p g q n m t ep eg eq en em et = rw (ep, eg, eq, en, em, et)
+
+idle-phase : (p : Phase) → isOpen p ≡ false → p ≡ Idle
+idle-phase Idle e = refl
+idle-phase Arqc e = absurd (true≢false e)
+idle-phase Aac e = absurd (true≢false e)
+
+unmarked : (m : PendingMark) → isUnmarked m ≡ true → m ≡ Nothing
+unmarked Nothing e = refl
+unmarked Set e = absurd (false≢true e)
+unmarked Clear e = absurd (false≢true e)
+
+not-true-false : (b : Bool) → not b ≡ true → b ≡ false
+not-true-false true e = sym e
+not-true-false false e = refl
+
+idle-none : (t : Transaction) → isOpen (t .phase) ≡ false → restFits t ≡ true → pendingFits (t .count) (t .pin) ≡ true → t ≡ none
+unfolding restFits pendingFits
+idle-none t o e f =
+    let a = and-eq-true-iff (same (t .cryptogram) (replicate 8 0)) _ .0 (rw o at e) in
+    let b = and-eq-true-iff (eqb (t .count) 0) _ .0 (a .1) in
+    let c = and-eq-true-iff (isUnmarked (t .mark)) _ .0 (b .1) in
+    none-by _ _ _ _ _ _ (idle-phase _ o) (same-true _ _ (a .0)) (same-true _ _ (rw (b .0) at f)) (eqb-true _ _ (b .0)) (unmarked _ (c .0)) (not-true-false _ (c .1))
+
+pub withdrawn-idle : WithdrawnIdle box
+unfolding withdrawing
+withdrawn-idle r s o =
+    let p = parts r s in
+    rw s (ap (λ (t : Transaction). plain (withTransaction r t) 0) (sym (idle-none (r .transaction) o (p .rested) (p .pended))))

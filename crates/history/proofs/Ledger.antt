@@ -2,7 +2,7 @@
 use Prim.Native.Nat.{ℕ}
 use mathlib.Core.Path.{_≡_, refl, sym, ap, _∙_}
 use mathlib.Core.List.{List, [], _∷_, _++_}
-use mathlib.Core.Bool.{Bool, true, false, not, _&&_, _||_, cond, true≢false, false≢true}
+use mathlib.Core.Bool.{Bool, true, false, not, _&&_, _||_, cond, or-true, true≢false, false≢true}
 use lib.Dec.{eqb}
 use Rattle.card.specs.declared.Transaction.{Transaction}
 use Rattle.card.specs.declared.Card.{Card}
@@ -10,11 +10,13 @@ use Rattle.card.specs.declared.Reply.{Reply}
 use Rattle.card.specs.Record.{isOpen, none, sound, Kept, kept, withTransaction}
 use Rattle.card.specs.Calls.{Refusal, number, Order, newPin, newMark, pend, laid, phaseFor, opening, answering, withdrawing, counting, openAs, answerAs, withdrawAs, countersAs, Judgment, refuse, accept}
 use Rattle.card.specs.Calls.{Verdict, refuses, spoils, differs, takes, judged, scriptAs}
+use Rattle.card.specs.Calls.{Closing, stays, drops, closes, closing, closeAs}
 use Rattle.card.specs.Calls.{Call, Open, IssuerAnswer, Script, Close, Withdraw, Counters, step}
-use Rattle.history.specs.Run.{box, run, frame}
+use Rattle.history.proofs.Own.{allGood, box, ledger, run}
+use Rattle.history.specs.Run.{frame}
 use Rattle.history.specs.Demand2.{Accepts, ordered}
 use Rattle.history.specs.Decides.{decides}
-use Rattle.history.specs.Demand3.{Fresh, Page, blankPage, newPage, scripted, turned, madeGood, ledger, allGood, obeyed, allObeyed, closeNumber, closes, KeptLaw, CloseLaw, ShownIsKept}
+use Rattle.history.specs.Demand3.{Fresh, Page, blankPage, newPage, scripted, turned, madeGood, obeyed, allObeyed, closeNumber, anyCloses, KeptLaw, CloseLaw, ShownIsKept, Stays, StaysLaw}
 use Rattle.history.proofs.Change.{mild, Change, change, quiet, idle, early, counted, opened, answered, spoiled, differed, took, dropped, closed, withdrew}
 use Rattle.history.proofs.Accepted.{not-zero, passed}
 use Rattle.history.proofs.Keeps.{pin-count, Fit, order-fit, keeps, Made, fresh-made, fresh-law}
@@ -73,13 +75,16 @@ took-ties r o p t e f =
     }
 
 -- a refused script leaves a page spoilt
-unaccepted : {r s : Card} {h m : List ℕ} (p : Page) (d : Dec (Accepts r h m)) → (Accepts r h m → ⊥) → Ties s (record { isOpen = p .isOpen; isSpoilt = true; orders = p .orders }) → Ties s (scripted p d)
+unaccepted : {r s : Card} {h m : List ℕ} (p : Page) (d : Dec (Accepts r h m)) → (Accepts r h m → ⊥) → Ties s (record { isOpen = p .isOpen; isSpoilt = p .isSpoilt || p .isOpen; orders = p .orders }) → Ties s (scripted p d)
 unaccepted p (yes a) n t = absurd (n a)
 unaccepted p (no f) n t = t
 
 accepted : {r : Card} {h m : List ℕ} (p : Page) (d : Dec (Accepts r h m)) (a : Accepts r h m) → Ties r p → Ties (withTransaction r (pend (r .transaction) (ordered a))) (scripted p d)
 accepted {r} p (yes b) a t = rw (one-order a b) (took-ties r (ordered b) p t (b .phase) (order-fit b))
 accepted {r} p (no n) a t = absurd (n a)
+
+now-spoilt : (p : Page) → p .isOpen ≡ true → (p .isSpoilt || p .isOpen) ≡ true
+now-spoilt p e = rw e (or-true (p .isSpoilt))
 
 quiet-turned : (p : Page) (r : Card) (c : Call) (q : Refusal) → mild c ≡ true → turned p r c (number q) ≡ p
 quiet-turned p r (Open d) q e = rw (not-zero q)
@@ -100,8 +105,9 @@ ties-step {r} p t counted = t
 ties-step {r} p t (opened {d} e) =
     record { phase = sym (begun-open (r .mark)); spoil = λ _. refl; laid-over = refl; empty = λ z. absurd (true≢false (sym (begun-open (r .mark)) ∙ z)) }
 ties-step {r} p t (answered e) = record { phase = t .phase; spoil = t .spoil; laid-over = t .laid-over; empty = t .empty }
-ties-step {r} p t (spoiled {h} {m} q e n f) = unaccepted p (decides r h m) f (record { phase = t .phase; spoil = λ _. refl; laid-over = t .laid-over; empty = t .empty })
-ties-step {r} p t (differed {h} {m} e f) = unaccepted p (decides r h m) f (record { phase = t .phase; spoil = λ _. refl; laid-over = t .laid-over; empty = t .empty })
+ties-step {r} p t (spoiled {h} {m} q e n f) = unaccepted p (decides r h m) f (record { phase = t .phase; spoil = λ _. now-spoilt p (t .phase ∙ e); laid-over = t .laid-over; empty = t .empty })
+ties-step {r} p t (differed {h} {m} w f) =
+    unaccepted p (decides r h m) f (record { phase = t .phase; spoil = λ _. now-spoilt p (t .phase ∙ w .phase); laid-over = t .laid-over; empty = t .empty })
 ties-step {r} p t (took {h} {m} a) = accepted p (decides r h m) a t
 ties-step {r} p t (dropped e s) = at-rest _ refl
 ties-step {r} p t (closed e s) = at-rest _ refl
@@ -142,7 +148,7 @@ tied : (r : Card) (cs : List Call) (p : Page) → sound r ≡ true → Ties r p 
 tied r [] p s t = (s, t)
 tied r (c ∷ cs) p s t = tied (box r c .card) cs (turned p r c (box r c .code)) (keeps s (change r s c)) (ties-step p t (change r s c))
 
-pub kept-law : KeptLaw
+pub kept-law : KeptLaw box
 kept-law r cs f = kept-by r cs blankPage (fresh-law r f) (at-rest r (fresh-made r f .rested))
 
 close-step : {r : Card} {a : Reply} (p : Page) → Ties r p → Change r Close a → a .code ≡ closeNumber p
@@ -151,7 +157,7 @@ close-step p t (idle e) = rw (t .phase ∙ e)
 close-step p t (dropped e s) = rw (t .phase ∙ e, t .spoil e ∙ s)
 close-step p t (closed e s) = rw (t .phase ∙ e, t .spoil e ∙ s)
 
-pub close-law : CloseLaw
+pub close-law : CloseLaw box
 close-law r cs f = let t = tied r cs blankPage (fresh-law r f) (at-rest r (fresh-made r f .rested)) in close-step (ledger blankPage r cs) (t .1) (change (run r cs) (t .0) Close)
 
 -- nothing but a close changes what is kept
@@ -189,8 +195,51 @@ neither : (a b : Bool) → (a || b) ≡ false → (a ≡ false) × (b ≡ false)
 neither true b e = absurd (true≢false e)
 neither false b e = (refl, e)
 
-pub shown-is-kept : ShownIsKept
+pub shown-is-kept : ShownIsKept box
 shown-is-kept r [] e = refl
 shown-is-kept r (c ∷ cs) e =
-    let n = neither (eqb (frame c) 4) (closes cs) e in
+    let n = neither (eqb (frame c) 4) (anyCloses cs) e in
     shown-is-kept (box r c .card) cs (n .1) ∙ shown-step r c (n .0)
+
+-- the keys, and the counters that no call names, stay
+stays-step : (r : Card) (c : Call) → Stays r (box r c .card)
+stays-step r (Open d) = go (opening r d)
+  where
+    go : (v : Judgment) → Stays r (openAs r d v .card)
+    go (refuse q) = record { ac = refl; smi = refl; smc = refl; decipherments = refl; authentications = refl }
+    go accept = record { ac = refl; smi = refl; smc = refl; decipherments = refl; authentications = refl }
+stays-step r (IssuerAnswer x u) = go (answering r x u)
+  where
+    go : (v : Judgment) → Stays r (answerAs r v .card)
+    go (refuse q) = record { ac = refl; smi = refl; smc = refl; decipherments = refl; authentications = refl }
+    go accept = record { ac = refl; smi = refl; smc = refl; decipherments = refl; authentications = refl }
+stays-step r (Script h m) = go (judged r h m)
+  where
+    go : (v : Verdict) → Stays r (scriptAs r v .card)
+    go (refuses q) = record { ac = refl; smi = refl; smc = refl; decipherments = refl; authentications = refl }
+    go (spoils q) = record { ac = refl; smi = refl; smc = refl; decipherments = refl; authentications = refl }
+    go differs = record { ac = refl; smi = refl; smc = refl; decipherments = refl; authentications = refl }
+    go (takes o) = record { ac = refl; smi = refl; smc = refl; decipherments = refl; authentications = refl }
+stays-step r Close = go (closing r)
+  where
+    go : (v : Closing) → Stays r (closeAs r v .card)
+    go (stays q) = record { ac = refl; smi = refl; smc = refl; decipherments = refl; authentications = refl }
+    go drops = record { ac = refl; smi = refl; smc = refl; decipherments = refl; authentications = refl }
+    go closes = record { ac = refl; smi = refl; smc = refl; decipherments = refl; authentications = refl }
+stays-step r Withdraw = go (withdrawing r)
+  where
+    go : (v : Judgment) → Stays r (withdrawAs r v .card)
+    go (refuse q) = record { ac = refl; smi = refl; smc = refl; decipherments = refl; authentications = refl }
+    go accept = record { ac = refl; smi = refl; smc = refl; decipherments = refl; authentications = refl }
+stays-step r Counters = go (counting r)
+  where
+    go : (v : Judgment) → Stays r (countersAs r v .card)
+    go (refuse q) = record { ac = refl; smi = refl; smc = refl; decipherments = refl; authentications = refl }
+    go accept = record { ac = refl; smi = refl; smc = refl; decipherments = refl; authentications = refl }
+
+pub stays-law : StaysLaw box
+stays-law r [] = record { ac = refl; smi = refl; smc = refl; decipherments = refl; authentications = refl }
+stays-law r (c ∷ cs) =
+    let a = stays-law (box r c .card) cs in
+    let b = stays-step r c in
+    record { ac = a .ac ∙ b .ac; smi = a .smi ∙ b .smi; smc = a .smc ∙ b .smc; decipherments = a .decipherments ∙ b .decipherments; authentications = a .authentications ∙ b .authentications }

@@ -1,3 +1,4 @@
+pub mod Own
 pub mod Change
 pub mod Accepted
 pub mod Keeps
@@ -6,3 +7,4 @@ pub mod Counts
 pub mod Strike
 pub mod Papers
 pub mod PTable
+pub mod Useless

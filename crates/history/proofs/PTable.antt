@@ -13,12 +13,8 @@ use Rattle.message.specs.Shape.{tagFits, codeHead, body, bodySize, tagOf, dataO
 use Rattle.message.specs.Answers.{number, answer, shaped}
 use Rattle.card.specs.Record.{pendingFits, restFits, sound}
 use Rattle.card.specs.Calls.{opening, closing, withdrawing}
-use Rattle.history.specs.Examples.{Table, WithdrawnIdle}
+use Rattle.history.specs.Examples.{Table}
 
 pub p-table : Table
 unfolding leOctets beOctets same digits pairs X sixteen Y pinFits halves fields pinBlock wellFormed pinOf blockFits written noBlock found noPin writePin readBlock readPin width widths dataFields row place counterPlace issuerPlace kindPlace kindBits marked cardData largest lengthField lengthOf placeOf tagFits codeHead body bodySize tagOf dataOf bodyOf codeIn shape number answer shaped pendingFits restFits sound opening closing withdrawing
 p-table = refl
-
-pub withdrawn-idle : WithdrawnIdle
-unfolding same digits pinFits pendingFits restFits sound withdrawing
-withdrawn-idle atc = refl

@@ -5,7 +5,7 @@ use mathlib.Core.List.{List, [], _∷_, _++_}
 use mathlib.Core.Bool.{Bool, true, false, not, _&&_, _||_, cond, and-eq-true-iff}
 use lib.Dec.{eqb}
 use lib.ListN.{length, replicate, length-append}
-use borrow.Author.Tests.{eqb-true, eqb-false, eq-eqb}
+use borrow.Author.Tests.{eqb-true, eqb-false, eq-eqb, ne-eqb}
 use native.Mathlib.Omega.{arith}
 use Rattle.octets.specs.Same.{same}
 use Rattle.octets.proofs.SameLaws.{same-refl, same-true}
@@ -39,14 +39,14 @@ use Rattle.card.specs.Record.{isOpen, sound}
 use Rattle.card.specs.Keys.{sessionKeyOf, smiKey, smcKey, counterKeyOf}
 use Rattle.card.specs.Calls.{input, phaseWrong, counterFull, arpcDiffers, strikes, first, refuse, accept, opening, openAs, grown, kindFor, cryptogramFor}
 use Rattle.card.specs.Calls.{isArqc, arpcFor, answering, answerAs, counting, countersAs, countersFor, Open, IssuerAnswer, Counters}
-use Rattle.history.specs.Run.{box}
-use Rattle.history.specs.Demand2.{cryptogramKey, Cryptogram, CryptogramLaw, Answers, AnswerLaw, CountersLaw, ScriptKeys, ScriptKeysLaw, OpenWrapped, WrapOpened}
+use Rattle.history.proofs.Own.{box}
+use Rattle.history.specs.Demand2.{cryptogramKey, Cryptogram, CryptogramLaw, Opens, OpensExactly, Answers, AnswerLaw, CountersExactly, CountersLaw, ScriptKeys, ScriptKeysLaw, OpenWrapped, WrapOpened}
 
 length-seed : (atc : ℕ) → length (sessionSeed atc) ≡ 8
 unfolding sessionSeed
 length-seed atc = length-append (beOctets 2 atc) _ ∙ ap (λ (k : ℕ). k + 6) (length-beOctets 2 atc)
 
-length-derived : (key label seed : List ℕ) → length (derived key label seed) ≡ 32
+pub length-derived : (key label seed : List ℕ) → length (derived key label seed) ≡ 32
 unfolding derived hmac
 length-derived key label seed = length-hash256 _
 
@@ -70,32 +70,42 @@ session-key : (r : Card) → length (r .ac) ≡ 32 → sessionKeyOf r ≡ crypto
 unfolding sessionKeyOf sessionKey
 session-key r k = ap (λ (a : KeyAnswer). a .bytes) (sym (derivations.fits (r .ac) (sessionSeed (r .atc)) k (length-seed (r .atc)))) ∙ bytes-key _
 
--- what an accepted Open has passed
-open-length : (r : Card) (d : List ℕ) → box r (Open d) .code ≡ 0 → (length d ≡ 65) × (opening r d ≡ accept)
+-- when an Open is accepted, and what it answers
+pub opens-exactly : OpensExactly box
 unfolding opening
-open-length r d = go (sound r) (isOpen (r .transaction .phase)) (eqb (length d) 65) (eqb (r .atc) 65535 || eqb (r .counters .session) 65535) refl
+opens-exactly r d = (
+  go (sound r) (isOpen (r .transaction .phase)) (eqb (length d) 65) (eqb (r .atc) 65535) (eqb (r .counters .session) 65535) refl refl refl refl refl,
+  λ a. rw (a .sound, a .phase, eq-eqb _ _ (a .data-length), ne-eqb _ _ (a .atc-free), ne-eqb _ _ (a .session-free)),
+)
   where
-    go : (s o l f : Bool) → eqb (length d) 65 ≡ l
-        → openAs r d (first (strikes (not s) (refuse input) ∷ strikes o (refuse phaseWrong) ∷ strikes (not l) (refuse input) ∷ strikes f (refuse counterFull) ∷ []) accept) .code ≡ 0
-        → (length d ≡ 65) × (first (strikes (not s) (refuse input) ∷ strikes o (refuse phaseWrong) ∷ strikes (not l) (refuse input) ∷ strikes f (refuse counterFull) ∷ []) accept ≡ accept)
-    go false o l f e z = absurd (eqb-false 1 0 refl z)
-    go true true l f e z = absurd (eqb-false 6 0 refl z)
-    go true false false f e z = absurd (eqb-false 1 0 refl z)
-    go true false true true e z = absurd (eqb-false 7 0 refl z)
-    go true false true false e z = (eqb-true _ _ e, refl)
+    go : (s o l f n : Bool) → sound r ≡ s → isOpen (r .transaction .phase) ≡ o → eqb (length d) 65 ≡ l → eqb (r .atc) 65535 ≡ f → eqb (r .counters .session) 65535 ≡ n
+        → openAs r d (first (strikes (not s) (refuse input) ∷ strikes o (refuse phaseWrong) ∷ strikes (not l) (refuse input) ∷ strikes (f || n) (refuse counterFull) ∷ []) accept) .code ≡ 0
+        → Opens r d
+    go false o l f n es eo el ef en z = absurd (eqb-false 1 0 refl z)
+    go true true l f n es eo el ef en z = absurd (eqb-false 6 0 refl z)
+    go true false false f n es eo el ef en z = absurd (eqb-false 1 0 refl z)
+    go true false true true n es eo el ef en z = absurd (eqb-false 7 0 refl z)
+    go true false true false true es eo el ef en z = absurd (eqb-false 7 0 refl z)
+    go true false true false false es eo el ef en z =
+        record { sound = es; phase = eo; data-length = eqb-true _ _ el; atc-free = eqb-false _ _ ef; session-free = eqb-false _ _ en }
 
-pub cryptogram-law : CryptogramLaw
+pub open-accepted : (r : Card) (d : List ℕ) → Opens r d → opening r d ≡ accept
+unfolding opening
+open-accepted r d a = rw (a .sound, a .phase, eq-eqb _ _ (a .data-length), ne-eqb _ _ (a .atc-free), ne-eqb _ _ (a .session-free))
+
+pub cryptogram-law : CryptogramLaw box
 unfolding cryptogramFor
 cryptogram-law r d k z =
-    let p = open-length r d z in
-    let g = grown r in
+    let o = opens-exactly r d .0 z in
+    let p = open-accepted r d o in
     let e : sessionKeyOf (grown r) ≡ cryptogramKey r (r .atc + 1) = session-key (grown r) k in
     record {
-      kind = rw (p .1);
+      stored = rw p;
+      kind = rw p;
       bytes =
-          rw (p .1)
+          rw p
           (ap (λ (x : List ℕ). cryptogramAnswer x (kindFor (r .mark)) (r .atc + 1) d .bytes) e
-          ∙ ap (λ (a : Answer). a .bytes) (sym (made _ (kindFor (r .mark)) (r .atc + 1) d (length-derived _ _ _) (p .0)))
+          ∙ ap (λ (a : Answer). a .bytes) (sym (made _ (kindFor (r .mark)) (r .atc + 1) d (length-derived _ _ _) (o .data-length)))
           ∙ bytes-answer _);
     }
 
@@ -108,7 +118,7 @@ arpc-law r u k g l =
     ∙ ap (λ (a : Answer). a .bytes) (sym (arpc-made _ (r .transaction .cryptogram) u (length-derived _ _ _) g l))
     ∙ bytes-answer _
 
-pub answer-law : AnswerLaw
+pub answer-law : AnswerLaw box
 unfolding answering
 answer-law r x u k g = (go (sound r) (isArqc (r .transaction .phase)) (eqb (length x) 8) (eqb (length u) 4) (same x (arpcFor r u)) refl refl refl refl refl, back)
   where
@@ -128,17 +138,6 @@ answer-law r x u k g = (go (sound r) (isArqc (r .transaction .phase)) (eqb (leng
         let e : same x (arpcFor r u) ≡ true = ap (same x) (arpc-law r u k g (a .csu-length) ∙ sym (a .matches)) ∙ same-refl x in
         rw (a .sound, a .phase, eq-eqb _ _ (a .arpc-length), eq-eqb _ _ (a .csu-length), e)
 
--- accepted Counters
-counting-accepted : (r : Card) → box r Counters .code ≡ 0 → counting r ≡ accept
-unfolding counting
-counting-accepted r = go (sound r) (isOpen (r .transaction .phase))
-  where
-    go : (s o : Bool) → countersAs r (first (strikes (not s) (refuse input) ∷ strikes (not o) (refuse phaseWrong) ∷ []) accept) .code ≡ 0
-        → first (strikes (not s) (refuse input) ∷ strikes (not o) (refuse phaseWrong) ∷ []) accept ≡ accept
-    go false o z = absurd (eqb-false 1 0 refl z)
-    go true false z = absurd (eqb-false 6 0 refl z)
-    go true true z = refl
-
 length-counters : (c : CounterStruct) → length (counterBlock c) ≡ 8
 unfolding counterBlock
 length-counters c =
@@ -155,10 +154,25 @@ enciphered-made key b k l = ap (λ (a : BlockAnswer). a .bytes) (sym (ciphers.fi
 counter-key : (key : List ℕ) → length key ≡ 32 → counterKey key .bytes ≡ hash256 key
 counter-key key k = ap (λ (a : KeyAnswer). a .bytes) (sym (counter-yes key k)) ∙ bytes-key _
 
-pub counters-law : CountersLaw
+counting-accepted : (r : Card) → sound r ≡ true → isOpen (r .transaction .phase) ≡ true → counting r ≡ accept
+unfolding counting
+counting-accepted r s o = rw (s, o)
+
+pub counters-exactly : CountersExactly box
+unfolding counting
+counters-exactly r = (go (sound r) (isOpen (r .transaction .phase)) refl refl, λ a. rw (a .0, a .1))
+  where
+    go : (s o : Bool) → sound r ≡ s → isOpen (r .transaction .phase) ≡ o
+        → countersAs r (first (strikes (not s) (refuse input) ∷ strikes (not o) (refuse phaseWrong) ∷ []) accept) .code ≡ 0 → (sound r ≡ true) × (isOpen (r .transaction .phase) ≡ true)
+    go false o es eo z = absurd (eqb-false 1 0 refl z)
+    go true false es eo z = absurd (eqb-false 6 0 refl z)
+    go true true es eo z = (es, eo)
+
+pub counters-law : CountersLaw box
 unfolding countersFor counterKeyOf
 counters-law r k z =
-    rw (counting-accepted r z)
+    let a = counters-exactly r .0 z in
+    rw (counting-accepted r (a .0) (a .1))
     (ap (λ (x : List ℕ). enciphered (counterKey x .bytes) (counterBlock (r .counters)) .bytes) (session-key r k)
     ∙ ap (λ (x : List ℕ). enciphered x (counterBlock (r .counters)) .bytes) (counter-key _ (length-derived _ _ _))
     ∙ enciphered-made _ _ (length-hash256 _) (length-counters (r .counters)))

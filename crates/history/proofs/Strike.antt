@@ -21,8 +21,9 @@ use Rattle.card.specs.Keys.{sessionKeyOf, smiKey, smcKey, counterKeyOf}
 use Rattle.card.specs.Calls.{Order, newPin, newMark, pend, plain, Judgment, refuse, accept, opening, openAs, cryptogramFor, arpcFor, answering, answerAs, withdrawing, counting, countersAs, countersFor}
 use Rattle.card.specs.Calls.{strikes, first, input, shapeWrong, Verdict, refuses, spoils, differs, takes, pinIn, forCommand, inOpen, judged, scriptAs}
 use Rattle.card.specs.Calls.{Call, Open, IssuerAnswer, Script, Close, Withdraw, Counters}
-use Rattle.history.specs.Run.{box, run, Entry, did, entry, History, history, callOf, callsOf, frame, was, taken}
-use Rattle.history.specs.Demand3.{Fresh, firstOf, restOf, struck, harmless, ends, anyEnds, Same, StrikeLaw, StrikeAnyLaw}
+use Rattle.history.proofs.Own.{box, history, run}
+use Rattle.history.specs.Run.{Entry, did, entry, History, callOf, callsOf, frame, was, taken}
+use Rattle.history.specs.Demand3.{Fresh, firstOf, restOf, struck, harmless, ends, anyEnds, SameButStruck, StrikeLaw, StrikeAnyLaw}
 use Rattle.history.proofs.Change.{change}
 use Rattle.history.proofs.Keeps.{keeps, Parts, parts, whole, sound-law, fresh-law}
 
@@ -175,7 +176,7 @@ unfolding withdrawing
 forgets s q ss sq b = rw (ss, sq) (ap (λ (x : Card). plain (withTransaction x none) 0) b)
 
 strike-by : (test : Entry → Bool) → ((e : Entry) → test e ≡ true → harmless e ≡ true)
-    → (r : Card) (a b d : List Call) (ps : List Bool) → Fresh r → anyEnds b ≡ false → Same r a b d test ps
+    → (r : Card) (a b d : List Call) (ps : List Bool) → Fresh r → anyEnds b ≡ false → SameButStruck box r a b d test ps
 unfolding Follows
 strike-by test ok r a b d ps fresh n =
     let r₀ = run r a in
@@ -198,8 +199,8 @@ taken-harmless (did c n k b) w =
     let p = and-eq-true-iff (eqb (frame c) 3) _ .0 w in
     rw (p .0, eqb-true n 0 (p .1))
 
-pub strike-any-law : StrikeAnyLaw
+pub strike-any-law : StrikeAnyLaw box
 strike-any-law = strike-by harmless (λ e w. w)
 
-pub strike-law : StrikeLaw
+pub strike-law : StrikeLaw box
 strike-law = strike-by taken taken-harmless

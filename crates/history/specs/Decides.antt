@@ -1,11 +1,11 @@
 -- Demand 2 decided: a message is accepted, or it is not. What the type says is all that the ledger uses. Assumes nothing.
 use Prim.Native.Nat.{ℕ}
 use mathlib.Core.Path.{_≡_, refl, sym, _∙_}
-use mathlib.Core.Bool.{Bool, true, false, not, false≢true, true≢false}
+use mathlib.Core.Bool.{Bool, true, false, false≢true}
 use mathlib.Core.List.{List}
 use lib.Dec.{eqb}
 use lib.ListN.{length}
-use borrow.Author.Tests.{eqb-true, eqb-false, eq-eqb}
+use borrow.Author.Tests.{eqb-true, eqb-false}
 use Rattle.message.specs.declared.command.Command.{Command}
 use Rattle.message.specs.declared.command.Listed.{Listed}
 use Rattle.message.specs.declared.command.Listed.the-variants.{One, Unlisted}

@@ -1,7 +1,7 @@
 -- Demand 2. Assumes nothing.
 use Prim.Native.Nat.{ℕ, _+_, _≤_}
 use mathlib.Core.Path.{_≡_}
-use mathlib.Core.Bool.{true}
+use mathlib.Core.Bool.{true, false}
 use mathlib.Core.Logic.{_↔_}
 use mathlib.Core.List.{List}
 use lib.ListN.{length, take, drop}
@@ -24,7 +24,7 @@ use Rattle.card.specs.declared.Card.{Card}
 use Rattle.card.specs.Record.{isOpen, sound as isSound}
 use Rattle.card.specs.Keys.{smiKey, smcKey}
 use Rattle.card.specs.Calls.{Order, orderOf, formatFits, pinIn, kindFor, isArqc, Open, IssuerAnswer, Script, Counters}
-use Rattle.history.specs.Run.{box}
+use Rattle.history.specs.Run.{Box}
 
 -- "Keys, cryptograms, PIN blocks, counter blocks and script messages are those of R 1323565.1.008, 009 and 010 as 01 reads them." Of the crates
 -- below, each contract says so; of the card, for a record whose keys have the 32 bytes of their type:
@@ -33,12 +33,24 @@ abbrev pub cryptogramKey : Card → ℕ → List ℕ
 cryptogramKey r atc = derived (r .ac) cardLabel (sessionSeed atc)
 
 -- an accepted Open gives the kind and the cryptogram of the data at the new counter
-pub record Cryptogram (r : Card) (d : List ℕ) : Type 0 where
-  pub kind : box r (Open d) .kind ≡ kindNumber (kindFor (r .mark))
-  pub bytes : box r (Open d) .bytes ≡ cryptogramOf (subkeys 8 (cryptogramKey r (r .atc + 1))) (kindFor (r .mark)) (r .atc + 1) d
+pub record Cryptogram (b : Box) (r : Card) (d : List ℕ) : Type 0 where
+  pub kind : b r (Open d) .kind ≡ kindNumber (kindFor (r .mark))
+  pub bytes : b r (Open d) .bytes ≡ cryptogramOf (subkeys 8 (cryptogramKey r (r .atc + 1))) (kindFor (r .mark)) (r .atc + 1) d
+  pub stored : b r (Open d) .card .transaction .cryptogram ≡ b r (Open d) .bytes
 
-abbrev pub CryptogramLaw : Type 0
-CryptogramLaw = (r : Card) (d : List ℕ) → length (r .ac) ≡ 32 → box r (Open d) .code ≡ 0 → Cryptogram r d
+abbrev pub CryptogramLaw : Box → Type 0
+CryptogramLaw b = (r : Card) (d : List ℕ) → length (r .ac) ≡ 32 → b r (Open d) .code ≡ 0 → Cryptogram b r d
+
+-- it is accepted exactly when the record is sound, none is open, the data are 65 bytes, and neither counter is full
+pub record Opens (r : Card) (d : List ℕ) : Type 0 where
+  pub sound : isSound r ≡ true
+  pub phase : isOpen (r .transaction .phase) ≡ false
+  pub data-length : length d ≡ 65
+  pub atc-free : r .atc ≡ 65535 → ⊥
+  pub session-free : r .counters .session ≡ 65535 → ⊥
+
+abbrev pub OpensExactly : Box → Type 0
+OpensExactly b = (r : Card) (d : List ℕ) → (b r (Open d) .code ≡ 0) ↔ Opens r d
 
 -- an issuer's answer is accepted exactly when it is the ARPC of the transaction's ARQC
 pub record Answers (r : Card) (arpc csu : List ℕ) : Type 0 where
@@ -48,15 +60,18 @@ pub record Answers (r : Card) (arpc csu : List ℕ) : Type 0 where
   pub csu-length : length csu ≡ 4
   pub matches : arpc ≡ arpcOf (subkeys 8 (cryptogramKey r (r .atc))) (r .transaction .cryptogram) csu
 
-abbrev pub AnswerLaw : Type 0
-AnswerLaw =
+abbrev pub AnswerLaw : Box → Type 0
+AnswerLaw b =
     (r : Card) (arpc csu : List ℕ) → length (r .ac) ≡ 32 → length (r .transaction .cryptogram) ≡ 8
-    → (box r (IssuerAnswer arpc csu) .code ≡ 0) ↔ Answers r arpc csu
+    → (b r (IssuerAnswer arpc csu) .code ≡ 0) ↔ Answers r arpc csu
 
--- accepted Counters give the counter block under the counter key
-abbrev pub CountersLaw : Type 0
-CountersLaw =
-    (r : Card) → length (r .ac) ≡ 32 → box r Counters .code ≡ 0 → box r Counters .bytes ≡ encipher (hash256 (cryptogramKey r (r .atc))) (counterBlock (r .counters))
+-- Counters are accepted exactly when the record is sound and a transaction is open, and give the counter block under the counter key
+abbrev pub CountersExactly : Box → Type 0
+CountersExactly b = (r : Card) → (b r Counters .code ≡ 0) ↔ ((isSound r ≡ true) × (isOpen (r .transaction .phase) ≡ true))
+
+abbrev pub CountersLaw : Box → Type 0
+CountersLaw b =
+    (r : Card) → length (r .ac) ≡ 32 → b r Counters .code ≡ 0 → b r Counters .bytes ≡ encipher (hash256 (cryptogramKey r (r .atc))) (counterBlock (r .counters))
 
 -- the session keys of a script come from the transaction's cryptogram
 pub record ScriptKeys (r : Card) : Type 0 where
@@ -83,8 +98,22 @@ pub record Accepts (r : Card) (h m : List ℕ) : Type 0 where
 abbrev pub ordered : {r : Card} {h m : List ℕ} → Accepts r h m → Order
 ordered {r} {h} {m} a = orderOf (a .command) (pinIn r m)
 
-abbrev pub AcceptedExactly : Type 0
-AcceptedExactly = (r : Card) (h m : List ℕ) → (box r (Script h m) .code ≡ 0) ↔ Accepts r h m
+abbrev pub AcceptedExactly : Box → Type 0
+AcceptedExactly b = (r : Card) (h m : List ℕ) → (b r (Script h m) .code ≡ 0) ↔ Accepts r h m
+
+-- and refused with 8 exactly when all that is checked ahead of the code passes and the code does not
+pub record Differs (r : Card) (h m : List ℕ) : Type 0 where
+  pub sound : isSound r ≡ true
+  pub phase : isOpen (r .transaction .phase) ≡ true
+  pub header : length h ≡ 4
+  pub shape : hasShape m ≡ true
+  pub command : Command
+  pub instruction : commandOf h (tagOf m) (lengthOf m) ≡ One command
+  pub counter : r .counters .failures ≡ 65535 → ⊥
+  pub code : codeFits (smiKey r) h m ≡ false
+
+abbrev pub DiffersExactly : Box → Type 0
+DiffersExactly b = (r : Card) (h m : List ℕ) → (b r (Script h m) .code ≡ 8) ↔ Differs r h m
 
 -- "Opening what we wrapped returns its data; wrapping what we opened returns its bytes."
 abbrev pub OpenWrapped : Type 0

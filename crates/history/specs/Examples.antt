@@ -1,7 +1,7 @@
 -- 01, Examples on each side: "Marked P: to be shown true of the definitions as a single table under a single statement." Assumes nothing.
 use Prim.Native.Nat.{ℕ}
 use mathlib.Core.Path.{_≡_}
-use mathlib.Core.Bool.{Bool, true, false, not, _&&_}
+use mathlib.Core.Bool.{Bool, true, false, _&&_}
 use mathlib.Core.List.{List, [], _∷_, _++_}
 use lib.Dec.{eqb}
 use lib.ListN.{getD, set, replicate}
@@ -13,9 +13,8 @@ use Rattle.cryptogram.specs.declared.Kind.the-variants.{Arqc, Tc, Aac}
 use Rattle.cryptogram.specs.Data.{cardData}
 use Rattle.message.specs.Answers.{number, shaped}
 use Rattle.card.specs.declared.Card.{Card}
-use Rattle.card.specs.Record.{none, withTransaction, spoilt}
-use Rattle.card.specs.Calls.{begun, plain, Open, Close, Withdraw}
-use Rattle.history.specs.Run.{box}
+use Rattle.card.specs.Record.{none, withTransaction, withCounters, withSession, spoilt}
+use Rattle.card.specs.Calls.{begun, step, Open, Close, Withdraw}
 
 -- a record with PIN 1234 at a transaction counter
 abbrev pub cardAt : ℕ → Card
@@ -74,10 +73,10 @@ shapes =
 abbrev pub kinds : List Bool
 kinds = eqb (at36 Arqc) 0xa5 ∷ eqb (at36 Tc) 0x95 ∷ eqb (at36 Aac) 0x85 ∷ []
 
--- P12, P13, P14: Open at 65535, Withdraw with none open (accepted, and the record as before), Close when spoilt
+-- P12, P13, P14: Open at 65535, of either counter; Withdraw with none open (that it changes nothing is WithdrawnIdle); Close when spoilt
 abbrev pub calls : List Bool
 calls =
-    eqb (box (cardAt 65535) (Open (replicate 65 0)) .code) 7 ∷ eqb (box (cardAt 1) Withdraw .code) 0 ∷ eqb (box spoiltCard Close .code) 10 ∷ []
+    eqb (step (cardAt 65535) (Open (replicate 65 0)) .code) 7 ∷ eqb (step (withCounters (cardAt 1) 1 (withSession (cardAt 1 .counters) 65535)) (Open (replicate 65 0)) .code) 7 ∷ eqb (step (cardAt 1) Withdraw .code) 0 ∷ eqb (step spoiltCard Close .code) 10 ∷ []
 
 abbrev pub all : List Bool → Bool
 all [] = true
@@ -85,7 +84,3 @@ all (b ∷ bs) = b && all bs
 
 abbrev pub Table : Type 0
 Table = all (seeds ++ pins ++ shapes ++ kinds ++ calls) ≡ true
-
--- P13's other half: "it is accepted and changes nothing"
-abbrev pub WithdrawnIdle : Type 0
-WithdrawnIdle = (atc : ℕ) → box (cardAt atc) Withdraw ≡ plain (cardAt atc) 0

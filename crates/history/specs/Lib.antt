@@ -1,4 +1,5 @@
 pub mod Run
+pub mod Boxes
 pub mod Demand2
 pub mod Decides
 pub mod Demand3

@@ -5,7 +5,7 @@ use mathlib.Core.List.{List, [], _∷_}
 use lib.Dec.{eqb}
 use Rattle.card.specs.declared.Card.{Card}
 use Rattle.card.specs.declared.Reply.{Reply}
-use Rattle.card.specs.Calls.{Call, Open, IssuerAnswer, Script, Close, Withdraw, Counters, step}
+use Rattle.card.specs.Calls.{Call, Open, IssuerAnswer, Script, Close, Withdraw, Counters}
 
 -- a call's frame in the clerk's trace
 abbrev pub frame : Call → ℕ
@@ -16,14 +16,14 @@ frame Close = 4
 frame Withdraw = 5
 frame Counters = 6
 
--- the box under the demands: what the card's functions are proved to answer
-abbrev pub box : Card → Call → Reply
-box r c = step r c
+-- a box: what it answers to a call on a record, and the record after it
+abbrev pub Box : Type 0
+Box = Card → Call → Reply
 
 -- the record after some calls
-abbrev pub run : Card → List Call → Card
-run r [] = r
-run r (c ∷ cs) = run (box r c .card) cs
+abbrev pub run : Box → Card → List Call → Card
+run b r [] = r
+run b r (c ∷ cs) = run b (b r c .card) cs
 
 -- a call and its answer: number, kind and bytes
 pub data Entry : Type 0 where
@@ -35,9 +35,9 @@ entry c a = did c (a .code) (a .kind) (a .bytes)
 abbrev pub History : Type 0
 History = List Entry
 
-abbrev pub history : Card → List Call → History
-history r [] = []
-history r (c ∷ cs) = entry c (box r c) ∷ history (box r c .card) cs
+abbrev pub history : Box → Card → List Call → History
+history b r [] = []
+history b r (c ∷ cs) = entry c (b r c) ∷ history b (b r c .card) cs
 
 abbrev pub callOf : Entry → Call
 callOf (did c n k b) = c
@@ -48,9 +48,9 @@ callsOf (e ∷ t) = callOf e ∷ callsOf t
 
 -- a call of some frame that was answered with some number
 abbrev pub was : ℕ → ℕ → Entry → Bool
-was f number (did c n k b) = eqb (frame c) f && eqb n number
+was f number (did c n k x) = eqb (frame c) f && eqb n number
 
--- an accepted opening, an accepted issuer answer, an accepted script, a script refused with 8
+-- an accepted opening (frame 01), an accepted issuer answer (02), an accepted script (03), a script refused with 8
 abbrev pub opened : Entry → Bool
 opened e = was 1 0 e
 

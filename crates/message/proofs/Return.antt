@@ -108,15 +108,15 @@ module _ (key header : List ℕ) (tag : ℕ) (d b : List ℕ) (place : ℕ) (e :
       (ap (opened key header) written-message ∙ open-made key header tag d (a .are-given) (a .tagged) (a .most), data-wrapped)
 
 -- what opening takes
-record Taken (key header m : List ℕ) (tag place n : ℕ) : Type 0 where
-  are-given : given key header ≡ true
-  shaped-so : shape m ≡ true
-  coded-so : codeFits key header m ≡ true
-  the-tag : tag ≡ tagOf m
-  the-place : place ≡ placeOf (lengthOf m)
-  the-length : n ≡ lengthOf m
+pub record Taken (key header m : List ℕ) (tag place n : ℕ) : Type 0 where
+  pub are-given : given key header ≡ true
+  pub shaped-so : shape m ≡ true
+  pub coded-so : codeFits key header m ≡ true
+  pub the-tag : tag ≡ tagOf m
+  pub the-place : place ≡ placeOf (lengthOf m)
+  pub the-length : n ≡ lengthOf m
 
-taken : (key header m : List ℕ) (tag place n : ℕ) → opened key header m ≡ Data tag place n → Taken key header m tag place n
+pub taken : (key header m : List ℕ) (tag place n : ℕ) → opened key header m ≡ Data tag place n → Taken key header m tag place n
 unfolding opened openNumber answer
 taken key header m tag place n e = go (given key header) refl (shape m) refl (codeFits key header m) refl e
   where

@@ -1,0 +1,215 @@
+-- Fed in parts is fed at once (`fed-fed`), a part is fed line by line (`fed-line`), and what is fed is what the trace is answered (`traced-fed`).
+-- Assumes nothing.
+use Prim.Native.Nat.{ℕ, zero, suc, _+_, _≤_, _<_}
+use native.Mathlib.Omega.{arith}
+use native.Mathlib.Nat.{add-zero}
+use native.Mathlib.Numerals.{add-one}
+use mathlib.Core.Path.{_≡_, refl, sym, ap, ap₂, _∙_}
+use mathlib.Core.Bool.{Bool, true, false}
+use mathlib.Core.List.{List, [], _∷_, _++_, append-assoc, append-nil}
+use lib.Dec.{eqb, leb}
+use lib.ListN.{length, take, drop, set, replicate, length-append, length-take, length-set, length-replicate}
+use lib.Seq.{take-all, take-append-le, take-append-seam, take-suc-set}
+use borrow.Author.Tests.{eq-eqb, ne-eqb, le-leb, lt-leb, leb-true, leb-false, eqb-true, eqb-false}
+use Rattle.trace.specs.declared.Held.{Held}
+use Rattle.trace.specs.declared.Trace.{Trace}
+use Rattle.trace.specs.declared.Fed.{Fed}
+use Rattle.trace.specs.Lines.{longest, kept, lastLine, linesFrom, lines, lineFor}
+use Rattle.trace.specs.Frames.{Answer, nothing, numbered, answerTo}
+use Rattle.trace.specs.Traced.{answers, traced}
+use Rattle.trace.specs.Feeding.{padded, said, begun, lineOf, extended, resting, completed, fedFrom, fed, ended, answerIn, afterAll, answersAll, longestAnswer, runFrom}
+use Rattle.trace.proofs.FrameLaws.{readable-long}
+
+-- fed in parts is fed at once: the same trace after it, and the answers joined
+pub fed-fed : (t : Trace) (a b : List ℕ)
+    → (afterAll t (a ++ b) ≡ afterAll (afterAll t a) b) × (answersAll t (a ++ b) ≡ answersAll t a ++ answersAll (afterAll t a) b)
+unfolding afterAll answersAll
+fed-fed t [] b = (refl, refl)
+fed-fed t (x ∷ a) b =
+    let f : Fed = fed t (x ∷ []) in
+    let r = fed-fed (f .trace) a b in
+    (r .0, ap (λ (s : List ℕ). answerIn f ++ s) (r .1) ∙ sym (append-assoc (answerIn f) (answersAll (f .trace) a) (answersAll (afterAll (f .trace) a) b)))
+
+-- what a completed line is answered
+answer-in : (t : Trace) (n : ℕ) → answerIn (completed t n) ≡ lineFor (answerTo (t .held) (lineOf t) .octets)
+unfolding completed said padded
+answer-in t n =
+    take-append-seam (lineFor (answerTo (t .held) (lineOf t) .octets)) _
+
+-- one byte: the line feed, or a sign
+one-line : (t : Trace) (b : ℕ) → eqb b 10 ≡ true → fed t (b ∷ []) ≡ completed t 1
+unfolding fedFrom
+one-line t b e = rw e
+
+one-sign : (t : Trace) (b : ℕ) → eqb b 10 ≡ false → fed t (b ∷ []) ≡ resting (extended t b) 1
+unfolding fedFrom
+one-sign t b e = rw e
+
+-- a part is fed line by line: what is fed up to a line feed, and then the rest
+pub record Split (t : Trace) (s : List ℕ) (n : ℕ) (f : Fed) : Type 0 where
+  pub size : ℕ
+  pub taken : f .taken ≡ n + size
+  pub within : size ≤ length s
+  pub some : 0 < length s → 0 < size
+  pub trace : afterAll t s ≡ afterAll (f .trace) (drop size s)
+  pub answer : answersAll t s ≡ answerIn f ++ answersAll (f .trace) (drop size s)
+  pub run : (room k : ℕ) (w : List ℕ) → length w + longestAnswer ≤ room
+      → runFrom room t k w s ≡ runFrom room (f .trace) (k + size) (w ++ answerIn f) (drop size s)
+
+split-none : (t : Trace) (n : ℕ) → Split t [] n (fedFrom t n [])
+unfolding fedFrom resting afterAll answersAll
+split-none t n =
+    record {
+      size = 0;
+      taken = sym (add-zero n);
+      within = omega arith;
+      some = λ h. h;
+      trace = refl;
+      answer = refl;
+      run = λ room k w h. ap₂ (λ (i : ℕ) (v : List ℕ). runFrom room t i v []) (sym (add-zero k)) (sym (append-nil w));
+    }
+
+split-line : (b : ℕ) (s : List ℕ) (t : Trace) (n : ℕ) → eqb b 10 ≡ true → Split t (b ∷ s) n (fedFrom t n (b ∷ s))
+unfolding fedFrom completed afterAll answersAll runFrom
+split-line b s t n e =
+    rw e
+    (record {
+      size = 1;
+      taken = refl;
+      within = omega arith;
+      some = λ h. omega arith;
+      trace = rw e;
+      answer = rw e;
+      run = λ room k w h. rw (le-leb _ _ h, e);
+    })
+
+split-sign : (b : ℕ) (s : List ℕ) (t : Trace) (n : ℕ) → eqb b 10 ≡ false → Split (extended t b) s (n + 1) (fedFrom (extended t b) (n + 1) s)
+    → Split t (b ∷ s) n (fedFrom t n (b ∷ s))
+unfolding fedFrom resting afterAll answersAll runFrom
+split-sign b s t n e r =
+    let f : Fed = fedFrom (extended t b) (n + 1) s in
+    rw e
+    (record {
+      size = suc (r .size);
+      taken = r .taken ∙ omega arith;
+      within = omega (arith, r .within);
+      some = λ h. omega arith;
+      trace = rw e (r .trace);
+      answer = rw e (r .answer);
+      run =
+          λ room k w h.
+          let g : k + 1 + r .size ≡ k + suc (r .size) = omega arith in
+          rw (le-leb _ _ h, e)
+          (ap (λ (v : List ℕ). runFrom room (extended t b) (k + 1) v s) (append-nil w)
+          ∙ r .run room (k + 1) w h
+          ∙ ap (λ (i : ℕ). runFrom room (f .trace) i (w ++ answerIn f) (drop (r .size) s)) g);
+    })
+
+pub either : {P : Type 0} (v : Bool) → (v ≡ true → P) → (v ≡ false → P) → P
+either true p q = p refl
+either false p q = q refl
+
+split : (s : List ℕ) (t : Trace) (n : ℕ) → Split t s n (fedFrom t n s)
+split [] t n = split-none t n
+split (b ∷ s) t n = either (eqb b 10) (λ e. split-line b s t n e) (λ e. split-sign b s t n e (split s (extended t b) (n + 1)))
+
+pub fed-line : (t : Trace) (s : List ℕ) → Split t s 0 (fed t s)
+fed-line t s = split s t 0
+
+-- a trace whose current line is l: one sign more than the longest line is kept
+record Holds (t : Trace) (l : List ℕ) : Type 0 where
+  room : length (t .line) ≡ kept
+  count : t .count ≡ length (take kept l)
+  line : lineOf t ≡ take kept l
+
+holds-nothing : (t : Trace) → length (t .line) ≡ kept → t .count ≡ 0 → Holds t []
+unfolding lineOf
+holds-nothing t h e = record { room = h; count = e; line = rw e }
+
+holds-sign : (t : Trace) (l : List ℕ) (b : ℕ) (v : Bool) → leb (t .count) longest ≡ v → Holds t l → Holds (extended t b) (l ++ b ∷ [])
+unfolding extended lineOf
+holds-sign t l b true v h =
+    let c : t .count ≤ longest = leb-true _ _ v in
+    let m : length l ≤ longest = omega (arith, length-take kept l, h .count) in
+    let u : take kept l ≡ l = take-all kept l (omega arith) in
+    let w : take kept (l ++ b ∷ []) ≡ l ++ b ∷ [] = take-all kept (l ++ b ∷ []) (simp length-append (omega arith)) in
+    let k : t .count ≡ length l = h .count ∙ ap length u in
+    let q : t .count < length (t .line) = omega (arith, h .room) in
+    rw v
+    (record {
+      room = simp length-set (h .room);
+      count = rw w (simp length-append (omega arith));
+      line = rw (w, add-one) (take-suc-set (t .line) (t .count) b q ∙ ap (λ (s : List ℕ). s ++ b ∷ []) (h .line ∙ u));
+    })
+holds-sign t l b false v h =
+    let c : longest < t .count = leb-false _ _ v in
+    let m : kept ≤ length l = omega (arith, length-take kept l, h .count) in
+    let w : take kept (l ++ b ∷ []) ≡ take kept l = take-append-le kept l (b ∷ []) m in
+    rw v (record { room = h .room; count = h .count ∙ ap length (sym w); line = h .line ∙ sym w })
+
+-- the answer does not depend on what is past the longest line
+answer-cut : (h : Held) (l : List ℕ) (v : Bool) → leb (length l) kept ≡ v → answerTo h (take kept l) ≡ answerTo h l
+unfolding answerTo
+answer-cut h l true v = ap (answerTo h) (take-all kept l (leb-true _ _ v))
+answer-cut h l false v =
+    let n : kept < length l = leb-false _ _ v in
+    let m : longest < length (take kept l) = simp length-take (omega arith) in
+    rw (readable-long l (omega arith), readable-long (take kept l) m)
+
+line-cut : (t : Trace) (l : List ℕ) → Holds t l → answerTo (t .held) (lineOf t) ≡ answerTo (t .held) l
+line-cut t l h = ap (answerTo (t .held)) (h .line) ∙ answer-cut (t .held) l (leb (length l) kept) refl
+
+extended-held : (t : Trace) (b : ℕ) (v : Bool) → leb (t .count) longest ≡ v → extended t b .held ≡ t .held
+unfolding extended
+extended-held t b true e = rw e
+extended-held t b false e = rw e
+
+completed-held : (t : Trace) → completed t 1 .trace .held ≡ answerTo (t .held) (lineOf t) .after
+unfolding completed said
+completed-held t = refl
+
+completed-holds : (t : Trace) (l : List ℕ) → Holds t l → Holds (completed t 1 .trace) []
+unfolding completed
+completed-holds t l h = holds-nothing (completed t 1 .trace) (h .room) refl
+
+-- the end of the input
+last-line : (t : Trace) (l : List ℕ) → Holds t l → answerIn (ended t) ≡ answers (t .held) (lastLine l)
+unfolding ended resting answers
+last-line t [] h = rw (eq-eqb _ _ (h .count))
+last-line t (x ∷ l) h =
+    let n : t .count ≡ 0 → ⊥ = λ e. omega (arith, h .count) in
+    rw (ne-eqb _ _ n) (answer-in t 0 ∙ ap (λ (a : Answer). lineFor (a .octets)) (line-cut t (x ∷ l) h) ∙ sym (append-nil _))
+
+-- the rest of the input, where l is read already
+reads-line : (b : ℕ) (s : List ℕ) (t : Trace) (l : List ℕ) → Holds t l → eqb b 10 ≡ true
+    → ((u : Trace) → Holds u [] → answersAll u s ++ answerIn (ended (afterAll u s)) ≡ answers (u .held) (linesFrom [] s))
+    → answersAll t (b ∷ s) ++ answerIn (ended (afterAll t (b ∷ s))) ≡ answers (t .held) (linesFrom l (b ∷ s))
+unfolding afterAll answersAll answers linesFrom
+reads-line b s t l h e r =
+    let u : Trace = completed t 1 .trace in
+    let x : Answer = answerTo (t .held) (lineOf t) in
+    let k : Holds u [] = completed-holds t l h in
+    rw (e, one-line t b e)
+    (append-assoc (answerIn (completed t 1)) (answersAll u s) (answerIn (ended (afterAll u s)))
+    ∙ ap₂ (λ (p q : List ℕ). p ++ q) (answer-in t 1) (r u k ∙ ap (λ (g : Held). answers g (linesFrom [] s)) (completed-held t))
+    ∙ ap (λ (a : Answer). lineFor (a .octets) ++ answers (a .after) (linesFrom [] s)) (line-cut t l h))
+
+reads-sign : (b : ℕ) (s : List ℕ) (t : Trace) (l : List ℕ) → eqb b 10 ≡ false
+    → answersAll (extended t b) s ++ answerIn (ended (afterAll (extended t b) s)) ≡ answers (extended t b .held) (linesFrom (l ++ b ∷ []) s)
+    → answersAll t (b ∷ s) ++ answerIn (ended (afterAll t (b ∷ s))) ≡ answers (t .held) (linesFrom l (b ∷ s))
+unfolding afterAll answersAll linesFrom resting
+reads-sign b s t l e r =
+    rw (e, one-sign t b e) (r ∙ ap (λ (g : Held). answers g (linesFrom (l ++ b ∷ []) s)) (extended-held t b (leb (t .count) longest) refl))
+
+reads : (s : List ℕ) (t : Trace) (l : List ℕ) → Holds t l
+    → answersAll t s ++ answerIn (ended (afterAll t s)) ≡ answers (t .held) (linesFrom l s)
+unfolding afterAll answersAll linesFrom
+reads [] t l h = last-line t l h
+reads (b ∷ s) t l h =
+    either (eqb b 10) (λ e. reads-line b s t l h e (λ u k. reads s u [] k))
+    (λ e. reads-sign b s t l e (reads s (extended t b) (l ++ b ∷ []) (holds-sign t l b (leb (t .count) longest) refl h)))
+
+-- from the beginning, all answers to the input and the answer at its end are the whole output
+pub traced-fed : (input : List ℕ) → answersAll begun input ++ answerIn (ended (afterAll begun input)) ≡ traced input
+unfolding traced
+traced-fed input = reads input begun [] (holds-nothing begun refl refl)

@@ -1,0 +1,102 @@
+-- Feeding a trace in parts: the structs of the code. Assumes nothing.
+use Prim.Native.Nat.{ℕ, _+_, _-_}
+use mathlib.Core.Path.{_≡_}
+use mathlib.Core.Bool.{Bool, cond}
+use mathlib.Core.List.{List, [], _∷_, _++_}
+use lib.Dec.{eqb, leb}
+use lib.ListN.{length, take, drop, set, replicate}
+use Rattle.trace.specs.declared.Held.{Held}
+use Rattle.trace.specs.declared.Trace.{Trace}
+use Rattle.trace.specs.declared.Fed.{Fed}
+use Rattle.trace.specs.declared.Said.{Said}
+use Rattle.trace.specs.declared.Filled.{Filled}
+use Rattle.trace.specs.Lines.{longest, kept, lineFor}
+use Rattle.trace.specs.Frames.{nothing, Answer, answerTo}
+
+-- a number, a kind, 8 bytes, and the line feed
+abbrev pub longestAnswer : ℕ
+longestAnswer = 21
+
+-- a line at the start of an array of n bytes
+unfoldable pub padded : ℕ → List ℕ → List ℕ
+padded n s = s ++ replicate (n - length s) 0
+
+-- an answer as a struct
+unfoldable pub said : Answer → Said
+said a =
+    record { held = a .after; count = length (lineFor (a .octets)); answer = padded longestAnswer (lineFor (a .octets)) }
+
+-- no record, and nothing read
+abbrev pub begun : Trace
+begun = record { held = nothing; line = replicate kept 0; count = 0 }
+
+-- the current line, of which one sign more than the longest is kept
+unfoldable pub lineOf : Trace → List ℕ
+lineOf t = take (t .count) (t .line)
+
+unfoldable pub extended : Trace → ℕ → Trace
+extended t b =
+    cond (leb (t .count) longest) (record { held = t .held; line = set (t .line) (t .count) b; count = t .count + 1 }) t
+
+-- no line was completed; the line was completed and answered
+unfoldable pub resting : Trace → ℕ → Fed
+resting t n = record { trace = t; taken = n; count = 0; answer = replicate longestAnswer 0 }
+
+abbrev pub closed : Trace → ℕ → Said → Fed
+closed t n s =
+    record {
+      trace = record { held = s .held; line = t .line; count = 0 };
+      taken = n;
+      count = s .count;
+      answer = s .answer;
+    }
+
+unfoldable pub completed : Trace → ℕ → Fed
+completed t n = closed t n (said (answerTo (t .held) (lineOf t)))
+
+-- bytes up to and including the first line feed, of which n are taken already
+unfoldable pub fedFrom : Trace → ℕ → List ℕ → Fed
+fedFrom t n [] = resting t n
+fedFrom t n (b ∷ s) = cond (eqb b 10) (completed t (n + 1)) (fedFrom (extended t b) (n + 1) s)
+
+abbrev pub fed : Trace → List ℕ → Fed
+fed t s = fedFrom t 0 s
+
+-- "a last line without one counts unless empty"
+unfoldable pub ended : Trace → Fed
+ended t = cond (eqb (t .count) 0) (resting t 0) (completed t 0)
+
+-- the answer that a part gave
+abbrev pub answerIn : Fed → List ℕ
+answerIn f = take (f .count) (f .answer)
+
+-- all bytes of a part: the trace after them, and the answers to the lines that they complete
+unfoldable pub afterAll : Trace → List ℕ → Trace
+afterAll t [] = t
+afterAll t (b ∷ s) = afterAll (fed t (b ∷ []) .trace) s
+
+unfoldable pub answersAll : Trace → List ℕ → List ℕ
+answersAll t [] = []
+answersAll t (b ∷ s) = answerIn (fed t (b ∷ [])) ++ answersAll (fed t (b ∷ []) .trace) s
+
+-- a part fed into a buffer of a size, while there is room for the longest answer: the trace after it, how many bytes were taken, and the answers
+pub record Run : Type 0 where
+  pub trace : Trace
+  pub taken : ℕ
+  pub text : List ℕ
+
+-- n bytes are taken already, and w is written
+unfoldable pub runFrom : ℕ → Trace → ℕ → List ℕ → List ℕ → Run
+runFrom size t n w [] = record { trace = t; taken = n; text = w }
+runFrom size t n w (b ∷ s) =
+    cond (leb (length w + longestAnswer) size)
+    (runFrom size (fed t (b ∷ []) .trace) (n + 1) (w ++ answerIn (fed t (b ∷ []))) s)
+    (record { trace = t; taken = n; text = w })
+
+abbrev pub run : ℕ → Trace → List ℕ → Run
+run size t s = runFrom size t 0 [] s
+
+-- the answers stand at the start of the buffer, and the rest of it stays
+pub record Fills (q : Run) (entry : List ℕ) (r : Filled) (exit : List ℕ) : Type 0 where
+  pub answer : r ≡ record { trace = q .trace; taken = q .taken; written = length (q .text) }
+  pub bytes : exit ≡ q .text ++ drop (length (q .text)) entry

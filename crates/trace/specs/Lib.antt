@@ -1,0 +1,4 @@
+pub mod Lines
+pub mod Frames
+pub mod Traced
+pub mod Feeding

@@ -1,5 +1,6 @@
 # make run: proves and builds the program and runs it on a sample.  make test: the whole gate.  make host: the desk's program in C.
-.PHONY: run test host clean
+# make bench: the proved code timed beside libgcrypt and nettle (docs/SPEED.md).
+.PHONY: run test host bench clean
 
 run:
 	rt check vectors
@@ -11,6 +12,9 @@ test:
 host:
 	tools/build-host
 	@echo 'tools/run box --help'
+
+bench:
+	bench/run
 
 clean:
 	rm -rf target

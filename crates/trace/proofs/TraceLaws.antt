@@ -1,4 +1,5 @@
--- Fed in parts is fed at once (`fed-fed`), a part is fed line by line (`fed-line`), and what is fed is what the trace is answered (`traced-fed`).
+-- Fed in parts is fed at once (`fed-fed`), a part is fed line by line (`fed-line`), and what is fed is what the trace is answered (`traced-fed`), however
+-- it is cut (`traced-parts`).
 -- Assumes nothing.
 use Prim.Native.Nat.{ℕ, zero, suc, _+_, _≤_, _<_}
 use native.Mathlib.Omega.{arith}
@@ -17,7 +18,7 @@ use Rattle.trace.specs.declared.Fed.{Fed}
 use Rattle.trace.specs.Lines.{longest, kept, lastLine, linesFrom, lines, lineFor}
 use Rattle.trace.specs.Frames.{Answer, nothing, numbered, answerTo}
 use Rattle.trace.specs.Traced.{answers, traced}
-use Rattle.trace.specs.Feeding.{padded, said, begun, lineOf, extended, resting, completed, fedFrom, fed, ended, answerIn, afterAll, answersAll, longestAnswer, runFrom}
+use Rattle.trace.specs.Feeding.{padded, said, begun, lineOf, extended, resting, completed, fedFrom, fed, ended, answerIn, afterAll, answersAll, afterParts, answersParts, joined, longestAnswer, runFrom}
 use Rattle.trace.proofs.FrameLaws.{readable-long}
 
 -- fed in parts is fed at once: the same trace after it, and the answers joined
@@ -213,3 +214,18 @@ reads (b ∷ s) t l h =
 pub traced-fed : (input : List ℕ) → answersAll begun input ++ answerIn (ended (afterAll begun input)) ≡ traced input
 unfolding traced
 traced-fed input = reads input begun [] (holds-nothing begun refl refl)
+
+-- however the input is cut into parts
+parts : (ps : List (List ℕ)) (t : Trace)
+    → (afterParts t ps ≡ afterAll t (joined ps)) × (answersParts t ps ≡ answersAll t (joined ps))
+unfolding afterParts answersParts joined afterAll answersAll
+parts [] t = (refl, refl)
+parts (p ∷ ps) t =
+    let r = parts ps (afterAll t p) in
+    let f = fed-fed t p (joined ps) in
+    (r .0 ∙ sym (f .0), ap (λ (s : List ℕ). answersAll t p ++ s) (r .1) ∙ sym (f .1))
+
+pub traced-parts : (ps : List (List ℕ)) → answersParts begun ps ++ answerIn (ended (afterParts begun ps)) ≡ traced (joined ps)
+traced-parts ps =
+    let r = parts ps begun in
+    ap₂ (λ (s : List ℕ) (t : Trace). s ++ answerIn (ended t)) (r .1) (r .0) ∙ traced-fed (joined ps)

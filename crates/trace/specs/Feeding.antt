@@ -79,6 +79,19 @@ unfoldable pub answersAll : Trace → List ℕ → List ℕ
 answersAll t [] = []
 answersAll t (b ∷ s) = answerIn (fed t (b ∷ [])) ++ answersAll (fed t (b ∷ []) .trace) s
 
+-- parts, one after the other
+unfoldable pub afterParts : Trace → List (List ℕ) → Trace
+afterParts t [] = t
+afterParts t (p ∷ ps) = afterParts (afterAll t p) ps
+
+unfoldable pub answersParts : Trace → List (List ℕ) → List ℕ
+answersParts t [] = []
+answersParts t (p ∷ ps) = answersAll t p ++ answersParts (afterAll t p) ps
+
+unfoldable pub joined : List (List ℕ) → List ℕ
+joined [] = []
+joined (p ∷ ps) = p ++ joined ps
+
 -- a part fed into a buffer of a size, while there is room for the longest answer: the trace after it, how many bytes were taken, and the answers
 pub record Run : Type 0 where
   pub trace : Trace

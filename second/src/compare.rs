@@ -16,9 +16,9 @@ use crate::random::Random;
 use crate::tally::Tally;
 use crate::trace::answers;
 
-/// Traces in one run, and which seeds have a run of their own.
-const TOGETHER: u64 = 10;
-const ALONE: u64 = 10;
+/// Traces in one run, and which of them has a run of its own too. It is not the last one, which may end torn in the common run as well.
+const TOGETHER: usize = 10;
+const ALONE: usize = 3;
 /// How long an answer may take, and how long a difference is made shorter.
 const PATIENCE: Duration = Duration::from_secs(20);
 const SHORTENING: Duration = Duration::from_secs(120);
@@ -52,11 +52,11 @@ impl Job {
 
 fn jobs(from: u64, count: u64) -> Vec<Job> {
     let seeds: Vec<u64> = (from..from + count).collect();
-    let together = seeds.chunks(TOGETHER as usize).enumerate().map(|(i, seeds)| {
+    let together = seeds.chunks(TOGETHER).enumerate().map(|(i, seeds)| {
         let feed = if i % 2 == 0 { Feed::Whole } else { Feed::Parts(seeds[0]) };
         Job { seeds: seeds.to_vec(), feed }
     });
-    let alone = seeds.iter().filter(|&seed| seed % ALONE == 0).enumerate().map(|(i, &seed)| {
+    let alone = seeds.iter().skip(ALONE).step_by(TOGETHER).enumerate().map(|(i, &seed)| {
         let feed = match i % 4 {
             0 => Feed::Whole,
             1 => Feed::LineByLine,
@@ -65,6 +65,18 @@ fn jobs(from: u64, count: u64) -> Vec<Job> {
         Job { seeds: vec![seed], feed }
     });
     together.chain(alone).collect()
+}
+
+/// How often each answer is reached by what is fed in these runs.
+fn tallied(jobs: &[Job]) -> Tally {
+    let mut tally = Tally::default();
+    jobs.iter().for_each(|job| tally.count(&job.input()));
+    tally
+}
+
+/// The same for the runs that a comparison on so many seeds makes.
+pub fn tally(from: u64, count: u64) -> Tally {
+    tallied(&jobs(from, count))
 }
 
 /// The program to compare with, and how it is started.
@@ -346,16 +358,33 @@ pub fn compare(peer: &Peer, from: u64, count: u64) -> io::Result<bool> {
         return Ok(false);
     }
     let took = begun.elapsed();
-    let mut tally = Tally::default();
-    (from..from + count).for_each(|seed| tally.count(&generate::trace(seed)));
+    let tally = tallied(&jobs);
     let all_reached = tally.print();
     let in_parts = jobs.iter().filter(|job| matches!(job.feed, Feed::Parts(_))).count();
     let by_line = jobs.iter().filter(|job| job.feed == Feed::LineByLine).count();
     println!(
-        "compare: {count} traces, {} lines, {} runs ({in_parts} in parts, {by_line} line by line), no difference, {} s",
+        "compare: {count} traces, {} lines in {} runs ({in_parts} in parts, {by_line} line by line), no difference, {} s",
         tally.lines,
         jobs.len(),
         took.as_secs()
     );
     Ok(all_reached)
+}
+
+#[cfg(test)]
+mod tests {
+    use super::*;
+
+    #[test]
+    fn the_runs_reach_everything() {
+        assert_eq!(tally(1, 300).missing(), Vec::<String>::new());
+    }
+
+    #[test]
+    fn other_traces_end_torn_alone_than_together() {
+        let (together, alone): (Vec<Job>, Vec<Job>) = jobs(1, 100).into_iter().partition(|job| job.seeds.len() > 1);
+        let last: Vec<u64> = together.iter().map(|job| job.seeds[TOGETHER - 1]).collect();
+        assert_eq!((last.len(), alone.len()), (10, 10));
+        assert!(alone.iter().all(|job| !last.contains(&job.seeds[0])));
+    }
 }

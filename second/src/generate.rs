@@ -17,7 +17,7 @@ type Line = Vec<u8>;
 pub fn trace(seed: u64) -> Vec<u8> {
     let mut clerk = Clerk::new(seed);
     let length = clerk.random.within(15, 85);
-    if clerk.random.once_in(3) {
+    if clerk.random.once_in(2) {
         for _ in 0..clerk.random.within(1, 4) {
             let line = clerk.early();
             clerk.say(line);

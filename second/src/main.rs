@@ -29,7 +29,7 @@ use std::process::ExitCode;
 const USAGE: &str = "usage: second trace             a clerk's trace, standard input to standard output
        second vectors           published vectors as lines, standard input to standard output
        second generate SEED     a random trace, valid and damaged
-       second tally FROM TO     how often the traces of these seeds reach each answer of each frame
+       second tally FROM TO     how often a comparison on these seeds reaches each answer of each frame
        second compare FROM N COMMAND...
                                 N traces from a seed on, answered by us and by another trace program
        second slip NAME         a clerk's trace on a wrong card, to try the comparison: NAMES
@@ -124,7 +124,5 @@ fn check_calls() -> io::Result<ExitCode> {
 }
 
 fn count_answers(from: u64, to: u64) -> io::Result<ExitCode> {
-    let mut tally = tally::Tally::default();
-    (from..=to).for_each(|seed| tally.count(&generate::trace(seed)));
-    Ok(if tally.print() { ExitCode::SUCCESS } else { ExitCode::FAILURE })
+    Ok(if compare::tally(from, (to + 1).saturating_sub(from)).print() { ExitCode::SUCCESS } else { ExitCode::FAILURE })
 }

@@ -2,11 +2,14 @@
 //!
 //! Most runs take several traces one after the other, for a program may be slow to start; a frame 00 begins a new history. Others take a single
 //! one, for what comes before a record. Input is given at once, in parts of any length, or line by line, each after the answer to the one before.
+//! At last come long traces from a file, which a program may read in large blocks.
 
-use std::io::{self, BufRead, BufReader, Read, Write};
+use std::fs::{remove_file, File};
+use std::io::{self, BufRead, BufReader, Read, Seek, Write};
+use std::os::unix::process::CommandExt;
 use std::process::{Child, ChildStdin, Command, Stdio};
 use std::sync::atomic::{AtomicBool, AtomicUsize, Ordering};
-use std::sync::mpsc::{channel, Receiver};
+use std::sync::mpsc::{channel, Receiver, RecvTimeoutError};
 use std::sync::Mutex;
 use std::thread;
 use std::time::{Duration, Instant};
@@ -16,18 +19,22 @@ use crate::random::Random;
 use crate::tally::Tally;
 use crate::trace::answers;
 
-/// Traces in one run, and which seeds have a run of their own.
-const TOGETHER: u64 = 10;
-const ALONE: u64 = 10;
-/// How long an answer may take, and how long a difference is made shorter.
+/// Traces in one run, and which of them has a run of its own too. It is not the last one, which may end torn in the common run as well.
+const TOGETHER: usize = 10;
+const ALONE: usize = 3;
+/// How long an answer may take, a run where nothing else is said, and how long a difference is made shorter.
 const PATIENCE: Duration = Duration::from_secs(20);
+pub const DEADLINE: Duration = Duration::from_secs(60);
 const SHORTENING: Duration = Duration::from_secs(120);
+/// The last line of a run that did not end by itself.
+const LATE: &[u8] = b"no end in time\n";
 
 #[derive(Clone, Copy, Debug, PartialEq)]
 enum Feed {
     Whole,
     Parts(u64),
     LineByLine,
+    File,
 }
 
 /// One run of the peer: the traces of some seeds.
@@ -52,11 +59,11 @@ impl Job {
 
 fn jobs(from: u64, count: u64) -> Vec<Job> {
     let seeds: Vec<u64> = (from..from + count).collect();
-    let together = seeds.chunks(TOGETHER as usize).enumerate().map(|(i, seeds)| {
+    let together = seeds.chunks(TOGETHER).enumerate().map(|(i, seeds)| {
         let feed = if i % 2 == 0 { Feed::Whole } else { Feed::Parts(seeds[0]) };
         Job { seeds: seeds.to_vec(), feed }
     });
-    let alone = seeds.iter().filter(|&seed| seed % ALONE == 0).enumerate().map(|(i, &seed)| {
+    let alone = seeds.iter().skip(ALONE).step_by(TOGETHER).enumerate().map(|(i, &seed)| {
         let feed = match i % 4 {
             0 => Feed::Whole,
             1 => Feed::LineByLine,
@@ -67,34 +74,82 @@ fn jobs(from: u64, count: u64) -> Vec<Job> {
     together.chain(alone).collect()
 }
 
-/// The program to compare with, and how it is started.
+/// How often each answer is reached by what is fed in these runs.
+fn tallied(jobs: &[Job]) -> Tally {
+    let mut tally = Tally::default();
+    jobs.iter().for_each(|job| tally.count(&job.input()));
+    tally
+}
+
+/// The same for the runs that a comparison on so many seeds makes.
+pub fn tally(from: u64, count: u64) -> Tally {
+    tallied(&jobs(from, count))
+}
+
+/// The program to compare with, how it is started, and how long a run may take.
 pub struct Peer<'a> {
     pub command: &'a [&'a str],
+    pub deadline: Duration,
 }
 
 impl Peer<'_> {
-    fn start(&self) -> io::Result<Child> {
-        Command::new(self.command[0]).args(&self.command[1..]).stdin(Stdio::piped()).stdout(Stdio::piped()).spawn()
+    /// In a process group of its own, so that all of it can be ended.
+    fn start(&self, stdin: Stdio) -> io::Result<Child> {
+        Command::new(self.command[0]).args(&self.command[1..]).stdin(stdin).stdout(Stdio::piped()).process_group(0).spawn()
     }
 
-    /// What the peer answers; a status other than 0 is one more line.
+    /// What the peer answers; a status other than 0 is one more line, and so is an end that did not come in time.
     fn answers(&self, input: &[u8], feed: Feed) -> io::Result<Vec<u8>> {
-        let mut child = self.start()?;
-        let stdin = child.stdin.take().expect("a pipe");
-        let stdout = child.stdout.take().expect("a pipe");
-        let mut output = match feed {
-            Feed::LineByLine => line_by_line(input, stdin, read_lines(stdout)),
-            _ => at_its_pace(input, feed, stdin, stdout)?,
-        };
-        let status = child.wait()?;
-        if !status.success() {
-            output.extend(format!("{status}\n").bytes());
-        }
-        Ok(output)
+        let mut child = self.start(if feed == Feed::File { file_of(input)?.into() } else { Stdio::piped() })?;
+        let group = child.id();
+        let (ending, ended) = channel::<()>();
+        thread::scope(|scope| {
+            let watch = scope.spawn(move || {
+                let late = ended.recv_timeout(self.deadline) == Err(RecvTimeoutError::Timeout);
+                if late {
+                    end_group(group);
+                }
+                late
+            });
+            let mut output = exchange(&mut child, input, feed)?;
+            let status = child.wait()?;
+            drop(ending);
+            if watch.join().expect("no panic") {
+                output.extend(LATE);
+            } else if !status.success() {
+                output.extend(format!("{status}\n").bytes());
+            }
+            Ok(output)
+        })
     }
 
     fn differs(&self, input: &[u8], feed: Feed) -> io::Result<bool> {
         Ok(self.answers(input, feed)? != answers(input))
+    }
+}
+
+/// The shell has the signal for a whole group.
+fn end_group(group: u32) {
+    let _ = Command::new("sh").args(["-c", &format!("kill -KILL -{group}")]).status();
+}
+
+/// A file that holds the input and has no name.
+fn file_of(input: &[u8]) -> io::Result<File> {
+    let path = std::env::temp_dir().join(format!("compare-{}-{:?}", std::process::id(), thread::current().id()));
+    let mut file = File::options().read(true).write(true).create_new(true).open(&path)?;
+    remove_file(&path)?;
+    file.write_all(input)?;
+    file.rewind()?;
+    Ok(file)
+}
+
+/// Gives the input and takes the answers.
+fn exchange(child: &mut Child, input: &[u8], feed: Feed) -> io::Result<Vec<u8>> {
+    let stdout = child.stdout.take().expect("a pipe");
+    match (child.stdin.take(), feed) {
+        (None, _) => Progress::default().read_all(stdout),
+        (Some(stdin), Feed::LineByLine) => Ok(line_by_line(input, stdin, read_lines(stdout))),
+        (Some(stdin), _) => at_its_pace(input, feed, stdin, stdout),
     }
 }
 
@@ -309,13 +364,18 @@ fn prefix(peer: &Peer, job: &Job) -> io::Result<(Vec<u8>, u64)> {
     Ok((lines.concat(), *job.seeds.last().expect("a seed")))
 }
 
-/// The input that is made shorter: the trace of the seed alone where that shows the difference, at once where that does.
+/// The input that is made shorter: the trace of the seed alone where that shows the difference, at once where that does. One that does not end
+/// stays as it is, for every step would take as long as a run may.
 fn shortest(peer: &Peer, job: &Job) -> io::Result<(Vec<u8>, u64, Feed)> {
     let (start, seed) = prefix(peer, job)?;
     let alone = generate::trace(seed);
     let candidates = [(alone.clone(), Feed::Whole), (start.clone(), Feed::Whole), (alone, job.feed), (start, job.feed)];
     for (input, feed) in candidates {
-        if peer.differs(&input, feed)? {
+        let theirs = peer.answers(&input, feed)?;
+        if theirs.ends_with(LATE) {
+            return Ok((input, seed, feed));
+        }
+        if theirs != answers(&input) {
             let shortening = Shortening { peer, feed, until: Instant::now() + SHORTENING };
             let lines = shortening.digits(shortening.lines(&input));
             return Ok((lines.concat(), seed, feed));
@@ -337,7 +397,29 @@ fn explain(peer: &Peer, job: &Job) -> io::Result<()> {
     Ok(())
 }
 
-/// Compares on the traces of so many seeds; true where all agree and everything named was reached.
+/// Compares on a long trace from a file; false where there is a difference, which is shown by its line.
+fn agrees_on(peer: &Peer, name: &str, input: &[u8]) -> io::Result<bool> {
+    let (theirs, ours) = (peer.answers(input, Feed::File)?, answers(input));
+    let kilobytes = ours.len() / 1000;
+    if theirs == ours {
+        println!("compare: the long trace of {name}: {} lines, {kilobytes} KB of answers, no difference", line_feeds(&ours));
+        return Ok(true);
+    }
+    let (mut theirs, mut ours) = (theirs.split(|&b| b == b'\n'), ours.split(|&b| b == b'\n'));
+    let mut line = 1;
+    loop {
+        let (other, own) = (theirs.next(), ours.next());
+        if other != own {
+            println!("compare: a DIFFERENCE in the long trace of {name}, at line {line}");
+            println!("the second program answers: {}", show(own.unwrap_or(b"nothing more")));
+            println!("the other answers: {}", show(other.unwrap_or(b"nothing more")));
+            return Ok(false);
+        }
+        line += 1;
+    }
+}
+
+/// Compares on the traces of so many seeds, then on the long ones; true where all agree and everything named was reached.
 pub fn compare(peer: &Peer, from: u64, count: u64) -> io::Result<bool> {
     let begun = Instant::now();
     let jobs = jobs(from, count);
@@ -345,17 +427,57 @@ pub fn compare(peer: &Peer, from: u64, count: u64) -> io::Result<bool> {
         explain(peer, &jobs[i])?;
         return Ok(false);
     }
+    for (name, input) in [("short lines", generate::short_lines()), ("long answers", generate::long_answers())] {
+        if !agrees_on(peer, name, &input)? {
+            return Ok(false);
+        }
+    }
     let took = begun.elapsed();
-    let mut tally = Tally::default();
-    (from..from + count).for_each(|seed| tally.count(&generate::trace(seed)));
+    let tally = tallied(&jobs);
     let all_reached = tally.print();
     let in_parts = jobs.iter().filter(|job| matches!(job.feed, Feed::Parts(_))).count();
     let by_line = jobs.iter().filter(|job| job.feed == Feed::LineByLine).count();
     println!(
-        "compare: {count} traces, {} lines, {} runs ({in_parts} in parts, {by_line} line by line), no difference, {} s",
+        "compare: {count} traces, {} lines in {} runs ({in_parts} in parts, {by_line} line by line), no difference, {} s",
         tally.lines,
         jobs.len(),
         took.as_secs()
     );
     Ok(all_reached)
+}
+
+#[cfg(test)]
+mod tests {
+    use super::*;
+
+    #[test]
+    fn a_peer_that_never_ends_is_ended() {
+        let peer = Peer { command: &["sh", "-c", "sleep 1000 | sleep 1000"], deadline: Duration::from_millis(200) };
+        for feed in [Feed::Whole, Feed::Parts(1), Feed::File] {
+            assert_eq!(peer.answers(b"05\n", feed).unwrap(), LATE);
+        }
+        assert!(peer.answers(b"05\n", Feed::LineByLine).unwrap().ends_with(LATE));
+    }
+
+    #[test]
+    fn a_block_of_a_long_trace_has_more_answers_than_a_block() {
+        for trace in [generate::short_lines(), generate::long_answers()] {
+            assert!(trace.len() > 65536 && trace.len() < 500_000);
+            assert!(answers(&trace[..65536]).len() > 3 * 65536 - 65536 / 2);
+            assert!(answers(&trace).len() > 200_000);
+        }
+    }
+
+    #[test]
+    fn the_runs_reach_everything() {
+        assert_eq!(tally(1, 300).missing(), Vec::<String>::new());
+    }
+
+    #[test]
+    fn other_traces_end_torn_alone_than_together() {
+        let (together, alone): (Vec<Job>, Vec<Job>) = jobs(1, 100).into_iter().partition(|job| job.seeds.len() > 1);
+        let last: Vec<u64> = together.iter().map(|job| job.seeds[TOGETHER - 1]).collect();
+        assert_eq!((last.len(), alone.len()), (10, 10));
+        assert!(alone.iter().all(|job| !last.contains(&job.seeds[0])));
+    }
 }

@@ -17,7 +17,7 @@ type Line = Vec<u8>;
 pub fn trace(seed: u64) -> Vec<u8> {
     let mut clerk = Clerk::new(seed);
     let length = clerk.random.within(15, 85);
-    if clerk.random.once_in(3) {
+    if clerk.random.once_in(2) {
         for _ in 0..clerk.random.within(1, 4) {
             let line = clerk.early();
             clerk.say(line);
@@ -32,6 +32,31 @@ pub fn trace(seed: u64) -> Vec<u8> {
         clerk.say(line);
     }
     clerk.end()
+}
+
+/// 200,000 lines of no digit or few, so that the answers to a block of them are far longer than the block.
+pub fn short_lines() -> Vec<u8> {
+    let mut random = Random::new(0);
+    let mut lines = vec![b'\n'; 100_000];
+    (0..100_000).for_each(|_| lines.extend(random.choose(&[&b"\n"[..], b"\n", b"\n", b"0\n", b"05\n", b"06\n", b"07\n", b"zz\n", b"0401\n"])));
+    lines
+}
+
+/// One card, 300 transactions, and the counters asked some 60 times in each: 3 signs are answered by 19.
+pub fn long_answers() -> Vec<u8> {
+    let mut clerk = Clerk::new(0);
+    let block = clerk.good_pin_block();
+    clerk.lines.push(frame(0, &[&[7; 96][..], &[0; 11], &block].concat()));
+    for _ in 0..300 {
+        let line = clerk.open();
+        clerk.lines.push(line);
+        for _ in 0..clerk.random.within(40, 80) {
+            clerk.lines.push(frame(6, &[]));
+        }
+        clerk.lines.push(frame(5, &[]));
+    }
+    clerk.lines.push(vec![]);
+    clerk.lines.join(&b'\n')
 }
 
 struct Clerk {

@@ -25,13 +25,15 @@ mod vectors;
 use std::collections::BTreeMap;
 use std::io::{self, BufRead, Write};
 use std::process::ExitCode;
+use std::time::Duration;
 
 const USAGE: &str = "usage: second trace             a clerk's trace, standard input to standard output
        second vectors           published vectors as lines, standard input to standard output
        second generate SEED     a random trace, valid and damaged
-       second tally FROM TO     how often the traces of these seeds reach each answer of each frame
+       second tally FROM TO     how often a comparison on these seeds reaches each answer of each frame
        second compare FROM N COMMAND...
-                                N traces from a seed on, answered by us and by another trace program
+                                N traces from a seed on and long ones, answered by us and by another trace program;
+                                a run that takes more than DEADLINE seconds (60) is ended
        second slip NAME         a clerk's trace on a wrong card, to try the comparison: NAMES
        second calls SEED N      N random calls of the library for C, with what must come of each
        second check             checks such lines, ours or a judge's, on standard input";
@@ -77,7 +79,8 @@ fn run_slip(name: &str) -> io::Result<ExitCode> {
 }
 
 fn run_compare(from: u64, count: u64, command: &[&str]) -> io::Result<ExitCode> {
-    let agree = compare::compare(&compare::Peer { command }, from, count)?;
+    let deadline = std::env::var("DEADLINE").map_or(compare::DEADLINE, |word| Duration::from_secs(number(&word)));
+    let agree = compare::compare(&compare::Peer { command, deadline }, from, count)?;
     Ok(if agree { ExitCode::SUCCESS } else { ExitCode::FAILURE })
 }
 
@@ -124,7 +127,5 @@ fn check_calls() -> io::Result<ExitCode> {
 }
 
 fn count_answers(from: u64, to: u64) -> io::Result<ExitCode> {
-    let mut tally = tally::Tally::default();
-    (from..=to).for_each(|seed| tally.count(&generate::trace(seed)));
-    Ok(if tally.print() { ExitCode::SUCCESS } else { ExitCode::FAILURE })
+    Ok(if compare::tally(from, (to + 1).saturating_sub(from)).print() { ExitCode::SUCCESS } else { ExitCode::FAILURE })
 }

@@ -11,6 +11,7 @@ use Rattle.card.specs.Record.{sound}
 use Rattle.card.specs.Calls.{Refusal, input, shapeWrong, notListed, phaseWrong, counterFull, codeDiffers, pinFormat, spoiltClosed, arpcDiffers, number}
 use Rattle.card.specs.Calls.{takes, inOpen, judged, step, Script}
 use Rattle.history.proofs.Own.{box}
+use Rattle.history.specs.Boxes.{OurAccepted}
 use Rattle.history.specs.Demand2.{Accepts, ordered, AcceptedExactly, Differs, DiffersExactly}
 use Rattle.history.proofs.Change.{Change, change, early, spoiled, differed, took, quiet}
 
@@ -49,7 +50,7 @@ unsound-script : (r : Card) (h m : List ℕ) → sound r ≡ false → step r (S
 unfolding judged
 unsound-script r h m e = rw e
 
-pub accepted-exactly : AcceptedExactly box
+pub accepted-exactly : OurAccepted
 accepted-exactly r h m = (there (sound r) refl, λ a. rw (passed r h m a))
   where
     there : (s : Bool) → sound r ≡ s → step r (Script h m) .code ≡ 0 → Accepts r h m

@@ -12,6 +12,7 @@ use Rattle.card.specs.declared.Reply.{Reply}
 use Rattle.card.specs.Record.{sound}
 use Rattle.card.specs.Calls.{Refusal, number, Call, Open, IssuerAnswer, Script, Close, Withdraw, Counters}
 use Rattle.history.proofs.Own.{box, history, run}
+use Rattle.history.specs.Boxes.{OurAtc}
 use Rattle.history.specs.Run.{Entry, did, entry, History, frame, was, opened as isOpened, answered as isAnswered, failed as isFailed}
 use Rattle.history.specs.Demand3.{Fresh, one, howMany, some, afterLast, AtcLaw, FailuresLaw, SessionLaw}
 use Rattle.history.proofs.Change.{mild, Change, change, quiet, idle, early, counted, opened, answered, spoiled, differed, took, dropped, closed, withdrew}
@@ -118,7 +119,7 @@ session-run r (c ∷ cs) s =
     session-list (entry c (box r c)) (history (box r c .card) cs) (r .counters .session) (box r c .card .counters .session) _ (session-step (change r s c))
     (session-run (box r c .card) cs (keeps s (change r s c)))
 
-pub atc-law : AtcLaw box
+pub atc-law : OurAtc
 atc-law r cs f = atc-run r cs (fresh-law r f)
 
 pub failures-law : FailuresLaw box

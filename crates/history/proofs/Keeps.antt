@@ -6,7 +6,7 @@ use mathlib.Core.Bool.{Bool, true, false, not, _&&_, cond, and-eq-true-iff, true
 use lib.Dec.{leb, eqb}
 use lib.ListN.{replicate}
 use native.Mathlib.Omega.{arith}
-use borrow.Author.Tests.{eqb-true, eqb-false, ne-eqb, leb-true}
+use borrow.Author.Tests.{not-true, eqb-true, eqb-false, ne-eqb, leb-true}
 use Rattle.octets.specs.Same.{same}
 use Rattle.octets.proofs.SameLaws.{same-true}
 use Rattle.message.specs.declared.command.Command.{Command}
@@ -97,7 +97,7 @@ laid-fits r s = go (eqb (r .transaction .count) 0) (s .pended)
     go true e = s .pinned
     go false e = e
 
-phase-open : (b : Bool) → isOpen (phaseFor b) ≡ true
+pub phase-open : (b : Bool) → isOpen (phaseFor b) ≡ true
 phase-open true = refl
 phase-open false = refl
 
@@ -166,17 +166,13 @@ unmarked Nothing e = refl
 unmarked Set e = absurd (false≢true e)
 unmarked Clear e = absurd (false≢true e)
 
-not-true-false : (b : Bool) → not b ≡ true → b ≡ false
-not-true-false true e = sym e
-not-true-false false e = refl
-
 idle-none : (t : Transaction) → isOpen (t .phase) ≡ false → restFits t ≡ true → pendingFits (t .count) (t .pin) ≡ true → t ≡ none
 unfolding restFits pendingFits
 idle-none t o e f =
     let a = and-eq-true-iff (same (t .cryptogram) (replicate 8 0)) _ .0 (rw o at e) in
     let b = and-eq-true-iff (eqb (t .count) 0) _ .0 (a .1) in
     let c = and-eq-true-iff (isUnmarked (t .mark)) _ .0 (b .1) in
-    none-by _ _ _ _ _ _ (idle-phase _ o) (same-true _ _ (a .0)) (same-true _ _ (rw (b .0) at f)) (eqb-true _ _ (b .0)) (unmarked _ (c .0)) (not-true-false _ (c .1))
+    none-by _ _ _ _ _ _ (idle-phase _ o) (same-true _ _ (a .0)) (same-true _ _ (rw (b .0) at f)) (eqb-true _ _ (b .0)) (unmarked _ (c .0)) (not-true (t .spoilt) (c .1))
 
 pub withdrawn-idle : WithdrawnIdle box
 unfolding withdrawing

@@ -13,13 +13,14 @@ use Rattle.card.specs.Calls.{Verdict, refuses, spoils, differs, takes, judged, 
 use Rattle.card.specs.Calls.{Closing, stays, drops, closes, closing, closeAs}
 use Rattle.card.specs.Calls.{Call, Open, IssuerAnswer, Script, Close, Withdraw, Counters, step}
 use Rattle.history.proofs.Own.{allGood, box, ledger, run}
+use Rattle.history.specs.Boxes.{OurKept}
 use Rattle.history.specs.Run.{frame}
 use Rattle.history.specs.Demand2.{Accepts, ordered}
 use Rattle.history.specs.Decides.{decides}
 use Rattle.history.specs.Demand3.{Fresh, Page, blankPage, newPage, scripted, turned, madeGood, obeyed, allObeyed, closeNumber, anyCloses, KeptLaw, CloseLaw, ShownIsKept, Stays, StaysLaw}
 use Rattle.history.proofs.Change.{mild, Change, change, quiet, idle, early, counted, opened, answered, spoiled, differed, took, dropped, closed, withdrew}
 use Rattle.history.proofs.Accepted.{not-zero, passed}
-use Rattle.history.proofs.Keeps.{pin-count, Fit, order-fit, keeps, Made, fresh-made, fresh-law}
+use Rattle.history.proofs.Keeps.{pin-count, phase-open, Fit, order-fit, keeps, Made, fresh-made, fresh-law}
 
 all-append : (x y : List Order) (k : Kept) → allObeyed (x ++ y) k ≡ allObeyed y (allObeyed x k)
 all-append [] y k = refl
@@ -53,10 +54,6 @@ unfolding laid
 at-rest r e =
     let a : isOpen (r .transaction .phase) ≡ false = ap (λ (t : Transaction). isOpen (t .phase)) e in
     record { phase = sym a; spoil = λ z. absurd (false≢true (sym a ∙ z)); laid-over = rw e; empty = λ _. refl }
-
-begun-open : (b : Bool) → isOpen (phaseFor b) ≡ true
-begun-open true = refl
-begun-open false = refl
 
 -- two acceptances of one message order the same
 one-order : {r : Card} {h m : List ℕ} (a b : Accepts r h m) → ordered a ≡ ordered b
@@ -103,7 +100,7 @@ ties-step {r} p t (early {h} {m} e) =
     unaccepted p (decides r h m) (λ a. true≢false (sym (a .phase) ∙ e)) (record { phase = t .phase; spoil = λ z. absurd (true≢false (sym z ∙ e)); laid-over = t .laid-over; empty = t .empty })
 ties-step {r} p t counted = t
 ties-step {r} p t (opened {d} e) =
-    record { phase = sym (begun-open (r .mark)); spoil = λ _. refl; laid-over = refl; empty = λ z. absurd (true≢false (sym (begun-open (r .mark)) ∙ z)) }
+    record { phase = sym (phase-open (r .mark)); spoil = λ _. refl; laid-over = refl; empty = λ z. absurd (true≢false (sym (phase-open (r .mark)) ∙ z)) }
 ties-step {r} p t (answered e) = record { phase = t .phase; spoil = t .spoil; laid-over = t .laid-over; empty = t .empty }
 ties-step {r} p t (spoiled {h} {m} q e n f) = unaccepted p (decides r h m) f (record { phase = t .phase; spoil = λ _. now-spoilt p (t .phase ∙ e); laid-over = t .laid-over; empty = t .empty })
 ties-step {r} p t (differed {h} {m} w f) =
@@ -148,7 +145,7 @@ tied : (r : Card) (cs : List Call) (p : Page) → sound r ≡ true → Ties r p 
 tied r [] p s t = (s, t)
 tied r (c ∷ cs) p s t = tied (box r c .card) cs (turned p r c (box r c .code)) (keeps s (change r s c)) (ties-step p t (change r s c))
 
-pub kept-law : KeptLaw box
+pub kept-law : OurKept
 kept-law r cs f = kept-by r cs blankPage (fresh-law r f) (at-rest r (fresh-made r f .rested))
 
 close-step : {r : Card} {a : Reply} (p : Page) → Ties r p → Change r Close a → a .code ≡ closeNumber p
@@ -191,7 +188,7 @@ shown-step r Counters e = go (counting r)
     go (refuse q) = refl
     go accept = refl
 
-neither : (a b : Bool) → (a || b) ≡ false → (a ≡ false) × (b ≡ false)
+pub neither : (a b : Bool) → (a || b) ≡ false → (a ≡ false) × (b ≡ false)
 neither true b e = absurd (true≢false e)
 neither false b e = (refl, e)
 

@@ -40,6 +40,7 @@ use Rattle.card.specs.Keys.{sessionKeyOf, smiKey, smcKey, counterKeyOf}
 use Rattle.card.specs.Calls.{input, phaseWrong, counterFull, arpcDiffers, strikes, first, refuse, accept, opening, openAs, grown, kindFor, cryptogramFor}
 use Rattle.card.specs.Calls.{isArqc, arpcFor, answering, answerAs, counting, countersAs, countersFor, Open, IssuerAnswer, Counters}
 use Rattle.history.proofs.Own.{box}
+use Rattle.history.specs.Boxes.{OurCryptogram}
 use Rattle.history.specs.Demand2.{cryptogramKey, Cryptogram, CryptogramLaw, Opens, OpensExactly, Answers, AnswerLaw, CountersExactly, CountersLaw, ScriptKeys, ScriptKeysLaw, OpenWrapped, WrapOpened}
 
 length-seed : (atc : ℕ) → length (sessionSeed atc) ≡ 8
@@ -93,7 +94,7 @@ pub open-accepted : (r : Card) (d : List ℕ) → Opens r d → opening r d ≡ 
 unfolding opening
 open-accepted r d a = rw (a .sound, a .phase, eq-eqb _ _ (a .data-length), ne-eqb _ _ (a .atc-free), ne-eqb _ _ (a .session-free))
 
-pub cryptogram-law : CryptogramLaw box
+pub cryptogram-law : OurCryptogram
 unfolding cryptogramFor
 cryptogram-law r d k z =
     let o = opens-exactly r d .0 z in

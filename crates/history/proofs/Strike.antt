@@ -25,6 +25,7 @@ use Rattle.history.proofs.Own.{box, history, run}
 use Rattle.history.specs.Run.{Entry, did, entry, History, callOf, callsOf, frame, was, taken}
 use Rattle.history.specs.Demand3.{Fresh, firstOf, restOf, struck, harmless, ends, anyEnds, SameButStruck, StrikeLaw, StrikeAnyLaw}
 use Rattle.history.proofs.Change.{change}
+use Rattle.history.proofs.Ledger.{neither}
 use Rattle.history.proofs.Keeps.{keeps, Parts, parts, whole, sound-law, fresh-law}
 
 -- the record with nothing pending and no spoilt mark: what a withdrawal forgets
@@ -135,10 +136,6 @@ harmless-bare r (Script h m) e = go (judged r h m) e
 -- the struck history is that of its own calls, from any record that differs only in what is pending
 Follows : Card → History → Card → Type 0
 Follows s y q = (history s (callsOf y) ≡ y) × (bare (run s (callsOf y)) ≡ bare q)
-
-neither : (a b : Bool) → (a || b) ≡ false → (a ≡ false) × (b ≡ false)
-neither true b e = absurd (true≢false e)
-neither false b e = (refl, e)
 
 module _ (test : Entry → Bool) (ok : (e : Entry) → test e ≡ true → harmless e ≡ true) where
   follows-step : (r s : Card) (c : Call) (ps : List Bool) (y : History) (q : Card) → sound r ≡ true → sound s ≡ true → bare r ≡ bare s → ends c ≡ false

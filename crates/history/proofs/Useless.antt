@@ -109,7 +109,7 @@ no-format sets x = refl
 no-format clears x = refl
 
 module _ (r : Card) (s : sound r ≡ true) (o : isOpen (r .transaction .phase) ≡ true) (f : r .counters .failures ≡ 65535 → ⊥) (c : Command) (m : Marks c) where
-  accepts : Accepts r (headerOf c) (order r c)
+  abbrev accepts : Accepts r (headerOf c) (order r c)
   accepts =
       let t = made r (headerOf c) (four m) in
       record {
@@ -125,20 +125,7 @@ module _ (r : Card) (s : sound r ≡ true) (o : isOpen (r .transaction .phase) �
       }
 
   takes-it : judged r (headerOf c) (order r c) ≡ takes (orderOf c (pinIn r (order r c)))
-  takes-it =
-      let t = made r (headerOf c) (four m) in
-      passed r (headerOf c) (order r c)
-      (record {
-        sound = s;
-        phase = o;
-        header = four m;
-        shape = t .shaped-so;
-        command = c;
-        instruction = ap₂ (commandOf (headerOf c)) (sym (t .the-tag)) (sym (t .the-length)) ∙ is-listed m;
-        counter = f;
-        code = t .coded-so;
-        format = no-format m _;
-      })
+  takes-it = passed r (headerOf c) (order r c) accepts
 
 -- a close of an open transaction that is not spoilt
 closes-well : (r : Card) → sound r ≡ true → isOpen (r .transaction .phase) ≡ true → r .transaction .spoilt ≡ false → closing r ≡ closes

@@ -10,6 +10,8 @@ use Rattle.card.specs.declared.Reply.{Reply}
 use Rattle.card.specs.Record.{isUnmarked, none, withTransaction}
 use Rattle.card.specs.Calls.{plain, grown, Call, Open, IssuerAnswer, Script, Close, Withdraw, Counters, step}
 use Rattle.history.specs.Run.{Box}
+use Rattle.history.specs.Demand2.{AcceptedExactly, CryptogramLaw}
+use Rattle.history.specs.Demand3.{KeptLaw, AtcLaw}
 
 -- "One refusing everything"
 abbrev pub refusesEverything : Box
@@ -47,3 +49,16 @@ madeUpCounters r c = record { card = grown (step r c .card); code = step r c .co
 -- what the card's functions are proved to answer
 abbrev pub ours : Box
 ours r c = step r c
+
+-- the claims on which the must-fail edits try the useless boxes in the place of ours
+abbrev pub OurAccepted : Type 0
+OurAccepted = AcceptedExactly ours
+
+abbrev pub OurCryptogram : Type 0
+OurCryptogram = CryptogramLaw ours
+
+abbrev pub OurKept : Type 0
+OurKept = KeptLaw ours
+
+abbrev pub OurAtc : Type 0
+OurAtc = AtcLaw ours

@@ -8,7 +8,7 @@ use Rattle.pin.specs.PinBlock.{pinFits, halves, fields, pinBlock, wellFormed, p
 use Rattle.cipher.specs.Answers.{blockFits}
 use Rattle.pin.specs.Answers.{written, noBlock, found, noPin, writePin, readBlock, readPin}
 use Rattle.cryptogram.specs.Data.{width, widths, fields as dataFields, row, place, counterPlace, issuerPlace, kindPlace, kindBits, marked, cardData}
-use Rattle.message.specs.Length.{largest, lengthField, lengthOf, placeOf}
+use Rattle.message.specs.Length.{largest, largestShort, lengthField, fieldSays, lengthOf, placeOf}
 use Rattle.message.specs.Shape.{tagFits, codeHead, body, bodySize, tagOf, dataOf, bodyOf, codeIn, shape}
 use Rattle.message.specs.Answers.{number, answer, shaped}
 use Rattle.card.specs.Record.{pendingFits, restFits, sound}
@@ -16,5 +16,5 @@ use Rattle.card.specs.Calls.{opening, closing, withdrawing}
 use Rattle.history.specs.Examples.{Table}
 
 pub p-table : Table
-unfolding leOctets beOctets same digits pairs X sixteen Y pinFits halves fields pinBlock wellFormed pinOf blockFits written noBlock found noPin writePin readBlock readPin width widths dataFields row place counterPlace issuerPlace kindPlace kindBits marked cardData largest lengthField lengthOf placeOf tagFits codeHead body bodySize tagOf dataOf bodyOf codeIn shape number answer shaped pendingFits restFits sound opening closing withdrawing
+unfolding leOctets beOctets same digits pairs X sixteen Y pinFits halves fields pinBlock wellFormed pinOf blockFits written noBlock found noPin writePin readBlock readPin width widths dataFields row place counterPlace issuerPlace kindPlace kindBits marked cardData largest largestShort lengthField fieldSays lengthOf placeOf tagFits codeHead body bodySize tagOf dataOf bodyOf codeIn shape number answer shaped pendingFits restFits sound opening closing withdrawing
 p-table = refl

@@ -35,9 +35,9 @@ cardAt atc =
 abbrev pub spoiltCard : Card
 spoiltCard = withTransaction (cardAt 1) (spoilt (begun false (replicate 8 0)))
 
--- a message of length byte n with n bytes of data, and four bytes for its code
-abbrev pub messageOf : ℕ → List ℕ
-messageOf n = 0x81 ∷ n ∷ (replicate n 0xa5 ++ 0x8e ∷ 0x04 ∷ 0x01 ∷ 0x02 ∷ 0x03 ∷ 0x04 ∷ [])
+-- a message of a length field with n bytes of data, and four bytes for its code
+abbrev pub messageOf : List ℕ → ℕ → List ℕ
+messageOf field n = 0x81 ∷ (field ++ (replicate n 0xa5 ++ 0x8e ∷ 0x04 ∷ 0x01 ∷ 0x02 ∷ 0x03 ∷ 0x04 ∷ []))
 
 -- what stands at offset 36 of data that held 25 there
 abbrev pub at36 : Kind → ℕ
@@ -60,13 +60,15 @@ pins =
     ∷ eqb (readPin (0x23 ∷ 0x12 ∷ 0x3f ∷ 0xff ∷ 0xff ∷ 0xff ∷ 0xff ∷ 0xff ∷ []) .code) 9
     ∷ []
 
--- P8, P9, P10: the shape of a message
+-- P8, P9, P10: the shape of a message; "In P10 byte 80 is still 4, and 81 80 with 128 bytes is good; 81 7f is 4." (Wish 1)
 abbrev pub shapes : List Bool
 shapes =
-    eqb (number (shaped (messageOf 0))) 0
+    eqb (number (shaped (messageOf (0x00 ∷ []) 0))) 0
     ∷ eqb (number (shaped (0x81 ∷ 0x00 ∷ 0x8e ∷ 0x05 ∷ 0x01 ∷ 0x02 ∷ 0x03 ∷ 0x04 ∷ []))) 4
-    ∷ eqb (number (shaped (messageOf 0x80))) 4
-    ∷ eqb (number (shaped (messageOf 0x7f))) 0
+    ∷ eqb (number (shaped (messageOf (0x80 ∷ []) 128))) 4
+    ∷ eqb (number (shaped (messageOf (0x7f ∷ []) 127))) 0
+    ∷ eqb (number (shaped (messageOf (0x81 ∷ 0x80 ∷ []) 128))) 0
+    ∷ eqb (number (shaped (messageOf (0x81 ∷ 0x7f ∷ []) 127))) 4
     ∷ []
 
 -- P11: offset 36 for ARQC, TC and AAC

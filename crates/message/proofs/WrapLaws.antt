@@ -1,7 +1,7 @@
 -- The writers of a message, and what wrapping answers, test by test. Assumes nothing.
 use mathlib.Core.Path.{_≡_, refl, sym, ap, ap₂, _∙_}
 use mathlib.Core.Bool.{Bool, true, false, _&&_, not, cond, and-false, and-eq-true-iff}
-use mathlib.Core.List.{List, _∷_, _++_, append-assoc}
+use mathlib.Core.List.{List, [], _∷_, _++_, append-assoc}
 use Prim.Native.Nat.{ℕ, _+_, _-_, _<_, _≤_}
 use native.Mathlib.Nat.{add-zero}
 use native.Mathlib.Numerals.{add-one, add-two, add-three}
@@ -12,13 +12,26 @@ use lib.Dec.{leb}
 use lib.ListN.{length, getD, take, drop, set}
 use lib.Seq.{paste, sets-eq, take-length, take-take}
 use Rattle.octets.proofs.Parts.{elements, elements-all}
-use Rattle.message.specs.Length.{largest, lengthField, placeOf}
+use Rattle.message.specs.Length.{largest, largestShort, lengthField, placeOf}
 use Rattle.message.specs.Shape.{tagFits, codeHead, body, bodySize, sizeOf}
 use Rattle.message.specs.Code.{codeFor, message, given}
 use Rattle.message.specs.Answers.{laid, wrapNumber, wrapped, Written, Wrote}
-use Rattle.message.proofs.LengthLaws.{largest-small, place-small, length-head}
+use Rattle.message.proofs.LengthLaws.{field-short, field-long, place-short, place-long, largest-small, place-small, length-head}
 use Rattle.message.proofs.ShapeLaws.{length-body}
 use Rattle.message.proofs.LaidLaws.{length-laid, lent-length, laid-there, laid-laid, laid-lent}
+
+-- the stores of a tag and a length field
+pub tag-short : (b : List ℕ) (t n : ℕ) → n ≤ largestShort → placeOf n ≤ length b → set (set b 0 t) 1 n ≡ laid b 0 (t ∷ lengthField n)
+unfolding laid
+tag-short b t n h l =
+    let p = place-short n h in
+    sets-eq (t ∷ n ∷ []) b 0 (omega arith) ∙ ap (λ (f : List ℕ). laid b 0 (t ∷ f)) (sym (field-short n h))
+
+pub tag-long : (b : List ℕ) (t n : ℕ) → largestShort < n → placeOf n ≤ length b → set (set (set b 0 t) 1 0x81) 2 n ≡ laid b 0 (t ∷ lengthField n)
+unfolding laid
+tag-long b t n h l =
+    let p = place-long n h in
+    sets-eq (t ∷ 0x81 ∷ n ∷ []) b 0 (omega arith) ∙ ap (λ (f : List ℕ). laid b 0 (t ∷ f)) (sym (field-long n h))
 
 -- four stores
 pub code-stored : (b : List ℕ) (p : ℕ) (c : List ℕ) → length c ≡ 4 → p + 4 ≤ length b

@@ -1,20 +1,30 @@
--- The length field of a script message (01, Script messages): how a length is written, how it is read, and where the data stand.
+-- The length field of a script message (01, Script messages, and Wish 1): how a length is written, how it is read, and where the data stand.
 -- Nothing outside this module knows how many bytes the field has. Assumes nothing.
 use Prim.Native.Nat.{ℕ, _+_}
+use mathlib.Core.Bool.{_&&_, cond}
 use mathlib.Core.List.{List, [], _∷_}
+use lib.Dec.{leb, eqb}
 use lib.ListN.{length, getD}
 
--- "one length byte L from 0 to 127"
+-- "Let L go to 255"
 unfoldable pub largest : ℕ
-largest = 127
+largest = 255
 
--- the field that says n
+-- the largest length that its one byte says
+unfoldable pub largestShort : ℕ
+largestShort = 127
+
+-- the field that says n: "0 to 127 keeps its one byte, 128 to 255 is written 81 and then the length"
 unfoldable pub lengthField : ℕ → List ℕ
-lengthField n = n ∷ []
+lengthField n = cond (leb n largestShort) (n ∷ []) (0x81 ∷ n ∷ [])
+
+-- what a field says that is byte a, or a and b; "no other form is read": it says more than a message may have
+unfoldable pub fieldSays : ℕ → ℕ → ℕ
+fieldSays a b = cond (leb a largestShort) a (cond (eqb a 0x81 && leb (largestShort + 1) b) b (largest + 1))
 
 -- what the field of a message says; the field follows the tag
 unfoldable pub lengthOf : List ℕ → ℕ
-lengthOf m = getD m 1 0
+lengthOf m = fieldSays (getD m 1 0) (getD m 2 0)
 
 -- the place of n bytes of data: after the tag and the field
 unfoldable pub placeOf : ℕ → ℕ

@@ -3,7 +3,7 @@ ghost use mathlib.Core.Path.{_≡_};
 ghost use mathlib.Core.Bool.{true};
 ghost use mathlib.Core.List.{[], _∷_, _++_};
 ghost use Prim.Native.Nat.{_+_, _≤_};
-ghost use lib.ListN.{length, take, replicate};
+ghost use lib.ListN.{length, getD, take, replicate};
 ghost use Rattle.octets.specs.Same.{same};
 ghost use Rattle.message.specs.Length.{largest, lengthField, lengthOf, placeOf};
 ghost use Rattle.message.specs.Shape.{tagFits, codeHead, bodySize};
@@ -25,24 +25,49 @@ pub enum Opened {
     Refused(u8),
 }
 
-// The largest length of data.
-const LARGEST: usize = 127;
+// The largest length of data, the largest that its one byte says, and the byte ahead of a longer one.
+const LARGEST: usize = 255;
 
-// What the length field of a message says.
+const LARGEST_SHORT: usize = 127;
+
+const LONG_MARK: usize = 0x81;
+
+// The byte of a message at a place; 0 past its end.
+fn byte_at(message: &[u8], at: usize) -> usize
+    ensures { λ r. ⌜ r ≡ getD (now (message .entry)) at 0 ⌝ }
+{
+    if at >= message.len() {
+        return 0;
+    }
+    message[at] as usize
+}
+
+// What the length field of a message says; more than the largest where it has another form.
 fn length_of(message: &[u8]) -> usize
     ensures { λ r. ⌜ r ≡ lengthOf (now (message .entry)) ⌝ }
 {
-    if message.len() < 2 {
-        return 0;
+    let first = byte_at(message, 1);
+    if first <= LARGEST_SHORT {
+        return first;
     }
-    message[1] as usize
+    if first != LONG_MARK {
+        return LARGEST + 1;
+    }
+    let second = byte_at(message, 2);
+    if second <= LARGEST_SHORT {
+        return LARGEST + 1;
+    }
+    second
 }
 
 // The place of n bytes of data in their message.
 fn place_of(n: usize) -> usize
     ensures { λ r. ⌜ r ≡ placeOf n ⌝ }
 {
-    2
+    if n <= LARGEST_SHORT {
+        return 2;
+    }
+    3
 }
 
 // Whether a tag is 87 or 81.
@@ -180,6 +205,11 @@ fn write_tag(part: &mut [u8], tag: u8, n: usize)
     ensures { λ _. ⌜ now (part .exit) ≡ laid (now (part .entry)) 0 (tag ∷ lengthField n) ⌝ }
 {
     part[0] = tag;
+    if n > LARGEST_SHORT {
+        part[1] = LONG_MARK as u8;
+        part[2] = n as u8;
+        return;
+    }
     part[1] = n as u8;
 }
 

@@ -6,9 +6,9 @@ use lib.Dec.{eqb, leb}
 use lib.ListN.{length, getD}
 use Rattle.octets.specs.Digits.{hexOctet, hexValue}
 
--- "more than 280 digits is 13"
+-- "the longest trace line 538 digits" (Wish 1); more is 13
 abbrev pub longest : ℕ
-longest = 280
+longest = 538
 
 -- of a longer line one sign more is kept
 abbrev pub kept : ℕ
@@ -50,7 +50,7 @@ octetsOf (a ∷ b ∷ l) = octetOf a b ∷ octetsOf l
 unfoldable pub hexadecimal : List ℕ → Bool
 hexadecimal l = not (eqb (length l) 0) && (eqb (length l % 2) 0 && legible l)
 
--- "An empty line, an odd count, a foreign sign, a first byte above 06 or more than 280 digits is 13."
+-- "An empty line, an odd count, a foreign sign, a first byte above 06 or more than 280 digits is 13.", now 538
 unfoldable pub readable : List ℕ → Bool
 readable l = leb (length l) longest && (hexadecimal l && leb (getD (octetsOf l) 0 0) lastFrame)
 

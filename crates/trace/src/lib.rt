@@ -13,7 +13,7 @@ ghost use Rattle.trace.specs.Frames.{holding, nothing, part, numbered, p
 ghost use Rattle.trace.specs.Feeding.{longestAnswer, said, begun, fed, completed, ended, run, Fills};
 
 // The most digits of a line, how many signs of one are kept, how many octets it has, and the last frame.
-const LONGEST: usize = 280;
+const LONGEST: usize = 538;
 
 const KEPT: usize = LONGEST + 1;
 

@@ -1,21 +1,34 @@
-use mathlib.Core.Path.{refl, sym}
-use lib.ListN.{List·getD-eq-default}
-use native.Mathlib.Omega.{arith}
-use Rattle.message.specs.Length.{lengthOf}
+use Rattle.message.specs.Length.{largest, largestShort}
+use Rattle.message.proofs.LengthLaws.{read-short, read-other, read-low, read-long}
 use borrow.Author.Needs.{needs}
 use Rattle.message.proofs.length_of.Statement.{statement}
 use Rattle.message.proofs.length_of.Tie as tie
 
 returns : tie.Need-returns
-unfolding lengthOf
-returns c = sym (List·getD-eq-default (c .before .args .message .now) 0 {n = 1} (omega arith))
-
-cast-result : tie.Need-cast-result
-cast-result c = record { fits = omega (arith, c .shared-slice-known .given 1) }
+unfolding largestShort
+returns c = read-short _ _ (c .before .byte-at .ensures) (c .if1 .taken)
 
 returns-2 : tie.Need-returns-2
-unfolding lengthOf
-returns-2 c = refl
+unfolding largest largestShort
+returns-2 c = read-other _ _ (c .before .before .byte-at .ensures) (c .before .if1 .left) (c .if2 .taken)
+
+returns-3 : tie.Need-returns-3
+unfolding largest largestShort
+returns-3 c = read-low _ _ (c .before .before .before .before .byte-at .ensures) _ (c .before .byte-at2 .ensures) (c .before .before .before .if1 .left) (c .if3 .taken)
+
+returns-4 : tie.Need-returns-4
+unfolding largest largestShort
+returns-4 c = read-long _ _ (c .before .before .before .before .byte-at .ensures) _ (c .before .byte-at2 .ensures) (c .before .before .if2 .left) (c .if3 .left)
 
 pub length-of-spec : {M : Type 1} → statement M
-length-of-spec = tie.close (tie.spec returns (λ c. search needs) cast-result returns-2)
+length-of-spec =
+    tie.close
+    (tie.spec
+    (λ c κs. search needs)
+    returns
+    (λ c. search needs)
+    returns-2
+    (λ c κs. search needs)
+    (λ c. search needs)
+    returns-3
+    returns-4)

@@ -1,11 +1,16 @@
-use mathlib.Core.Path.{refl}
-use Rattle.message.specs.Length.{lengthField, placeOf}
+use mathlib.Core.Path.{sym}
+use Rattle.message.specs.Length.{largestShort}
+use Rattle.message.proofs.LengthLaws.{place-short, place-long}
 use Rattle.message.proofs.place_of.Statement.{statement}
 use Rattle.message.proofs.place_of.Tie as tie
 
 returns : tie.Need-returns
-unfolding placeOf lengthField
-returns c = refl
+unfolding largestShort
+returns c = sym (place-short _ (c .if1 .taken))
+
+returns-2 : tie.Need-returns-2
+unfolding largestShort
+returns-2 c = sym (place-long _ (c .if1 .left))
 
 pub place-of-spec : {M : Type 1} → statement M
-place-of-spec = tie.close (tie.spec returns)
+place-of-spec = tie.close (tie.spec returns returns-2)

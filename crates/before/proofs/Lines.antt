@@ -1,0 +1,85 @@
+-- Lines of up to 280 digits, and traces of them, read as before. Assumes nothing.
+use mathlib.Core.Path.{_≡_, refl, sym, ap, ap₂, _∙_}
+use mathlib.Core.Bool.{Bool, true, false, _&&_, cond, and-eq-true-iff}
+use mathlib.Core.List.{List, [], _∷_, _++_}
+use Prim.Native.Nat.{ℕ, _+_, _*_, _≤_}
+use native.Mathlib.Omega.{arith}
+use borrow.Author.Tests.{le-leb, leb-true, eqb-true}
+use lib.Dec.{leb, eqb}
+use lib.ListN.{length, getD, take, drop, length-drop}
+use Rattle.message.specs.Length.{largest}
+use Rattle.message.specs.Shape.{sizeOf}
+use Rattle.message.proofs.Examples.{largest-message}
+use Rattle.card.specs.declared.Card.{Card}
+use Rattle.card.specs.declared.Reply.{Reply}
+use Rattle.card.specs.Calls.{step, Script, scriptAs}
+use Rattle.trace.specs.declared.Held.{Held}
+use Rattle.trace.specs.Lines.{longest, lastFrame, lines, octetsOf, hexadecimal, readable, lineFor}
+use Rattle.trace.specs.Frames.{nothing, Answer, numbered, personalisedBy, starts, called, replied, calling, framed, answerTo}
+use Rattle.trace.specs.Traced.{answers, traced}
+use Rattle.trace.proofs.FrameLaws.{called-3}
+use Rattle.before.specs.Base as base
+use Rattle.before.specs.Base.{longest as longestBefore, readable as readableBefore, called as calledBefore, calling as callingBefore, framed as framedBefore, answerTo as answerBefore, answers as answersBefore, traced as tracedBefore}
+use Rattle.before.specs.Statement.{lineBefore, noneAbove, ReadsAsBefore}
+use Rattle.before.proofs.Messages.{shaped-as-before, opened-as-before, judged-as-before}
+
+-- "the longest trace line 538 digits": a first byte, a header and the largest message
+pub longest-line : longest ≡ 2 * (1 + 4 + sizeOf largest)
+longest-line = ap (λ (k : ℕ). 2 * (1 + 4 + k)) (sym largest-message)
+
+-- two digits an octet
+octets-half : (l : List ℕ) → length (octetsOf l) + length (octetsOf l) ≤ length l
+unfolding octetsOf
+octets-half [] = omega arith
+octets-half (a ∷ []) = omega arith
+octets-half (a ∷ b ∷ l) = let h = octets-half l in omega arith
+
+-- a frame of up to 139 bytes after its first: header, and a message of up to 135
+module _ (s : List ℕ) (k : length s ≤ 139) where
+  same-called : (r : Card) (f : ℕ) → called r f s ≡ calledBefore r f s
+  unfolding calledBefore
+  same-called r f = go (eqb f 3) refl
+    where
+      script : scriptAs r (base.judged r (take 4 s) (drop 4 s)) ≡ step r (Script (take 4 s) (drop 4 s))
+      script = ap (scriptAs r) (sym (judged-as-before (drop 4 s) (omega (arith, length-drop 4 s)) r (take 4 s)))
+
+      go : (b : Bool) → eqb f 3 ≡ b → called r f s ≡ cond b (scriptAs r (base.judged r (take 4 s) (drop 4 s))) (called r f s)
+      go true e = sym (called-3 r f s _ (eqb-true _ _ e) script)
+      go false e = refl
+
+  same-framed : (h : Held) (f : ℕ) → framed h f s ≡ framedBefore h f s
+  unfolding framed framedBefore calling callingBefore
+  same-framed h f = ap (λ (p : Reply). cond (eqb f 0) (starts h (personalisedBy s)) (cond (h .exists) (replied f p) (numbered h 6))) (same-called (h .card) f)
+
+-- a line of up to 280 digits
+module _ (l : List ℕ) (k : length l ≤ lineBefore) where
+  same-readable : readable l ≡ readableBefore l
+  unfolding readable readableBefore longestBefore
+  same-readable =
+      ap (λ (x : Bool). x && (hexadecimal l && leb (getD (octetsOf l) 0 0) lastFrame)) (le-leb (length l) longest (omega arith) ∙ sym (le-leb (length l) 280 k))
+
+  same-line : (h : Held) → answerTo h l ≡ answerBefore h l
+  unfolding answerTo answerBefore
+  same-line h =
+      let o = octetsOf l in
+      let n : length (drop 1 o) ≤ 139 = omega (arith, length-drop 1 o, octets-half l) in
+      ap₂ (λ (x : Bool) (a : Answer). cond x a (numbered h 13)) same-readable (same-framed (drop 1 o) n h (getD o 0 0))
+
+same-answers : (ls : List (List ℕ)) → noneAbove lineBefore ls ≡ true → (h : Held) → answers h ls ≡ answersBefore h ls
+unfolding noneAbove answers answersBefore
+same-answers [] e h = refl
+same-answers (l ∷ ls) e h =
+    let w = and-eq-true-iff (leb (length l) lineBefore) (noneAbove lineBefore ls) .0 e in
+    let q = same-line l (leb-true _ _ (w .0)) h in
+    ap (λ (a : Answer). lineFor (a .octets) ++ answers (a .after) ls) q
+    ∙ ap (λ (t : List ℕ). lineFor (answerBefore h l .octets) ++ t) (same-answers ls (w .1) (answerBefore h l .after))
+
+pub reads-as-before : ReadsAsBefore
+unfolding traced tracedBefore
+reads-as-before =
+    record {
+      of-shape = shaped-as-before;
+      of-opening = λ key header m l. opened-as-before m l key header;
+      of-script = λ r header m l. judged-as-before m l r header;
+      of-trace = λ text e. same-answers (lines text) e nothing;
+    }

@@ -1,0 +1,178 @@
+-- Messages of up to 135 bytes read as before, and data of up to 127 bytes are written as before. Assumes nothing.
+use mathlib.Core.Path.{_≡_, refl, sym, ap, ap₂, _∙_}
+use mathlib.Core.Bool.{Bool, true, false, not, _&&_, cond, and-false}
+use mathlib.Core.List.{List, [], _∷_, _++_}
+use Prim.Native.Nat.{ℕ, _+_, _≤_, _<_}
+use native.Mathlib.Nat.{min-le-left}
+use native.Mathlib.Omega.{arith}
+use borrow.Author.Tests.{le-leb, lt-leb}
+use lib.Dec.{leb, eqb}
+use lib.ListN.{length, getD, take, drop, length-take}
+use Rattle.octets.specs.Same.{same}
+use Rattle.pin.specs.declared.PinRead.{PinRead}
+use Rattle.pin.specs.Answers.{decipherPin}
+use Rattle.message.specs.declared.Opened.the-variants.{Data, Refused}
+use Rattle.message.specs.declared.command.Listed.{Listed}
+use Rattle.message.specs.declared.command.Listed.the-variants.{One, Unlisted}
+use Rattle.message.specs.Length.{largest, largestShort, lengthField, fieldSays, lengthOf, placeOf}
+use Rattle.message.specs.Shape.{tagFits, codeHead, body, bodySize, tagOf, dataOf, bodyOf, codeIn, shape}
+use Rattle.message.specs.Code.{codeFor, message, given, codeFits}
+use Rattle.message.specs.Command.{commandOf}
+use Rattle.message.specs.Answers.{answer, shaped, openNumber, opened}
+use Rattle.message.proofs.LengthLaws.{Form, short, long, form, Says, one, two, none, says, says-short, says-long, field-short, place-short, place-long}
+use Rattle.message.proofs.ShapeLaws.{shape-good}
+use Rattle.card.specs.declared.Card.{Card}
+use Rattle.card.specs.Record.{isOpen, sound}
+use Rattle.card.specs.Keys.{smiKey, smcKey}
+use Rattle.card.specs.Calls.{Verdict, strikes, first, input, shapeWrong, phaseWrong, counterFull, pinFormat, refuses, spoils, differs, takes, orderOf, formatFits, pinIn, forCommand, inOpen, judged}
+use Rattle.before.specs.Statement.{sizeBefore}
+use Rattle.before.specs.Base as base
+use Rattle.before.specs.Base.{largest as largestBefore, lengthOf as lengthBefore, body as bodyBefore, dataOf as dataBefore, bodyOf as partBefore, codeIn as codeBefore, shape as shapeBefore, codeFits as fitsBefore, answer as answerBefore, shaped as shapedBefore, openNumber as numberBefore, opened as openedBefore, message as messageBefore, pinIn as pinBefore, inOpen as inOpenBefore, judged as judgedBefore}
+
+-- the body of data that one byte counts
+body-short : (t : ℕ) (d : List ℕ) → length d ≤ 127 → body t d ≡ bodyBefore t d
+unfolding body bodyBefore largestShort
+body-short t d h = ap (λ (f : List ℕ). t ∷ f ++ d ++ codeHead) (field-short (length d) h)
+
+pub writes-as-before : (key header : List ℕ) (tag : ℕ) (d : List ℕ) → length d ≤ 127 → message key header tag d ≡ base.message key header tag d
+unfolding message messageBefore
+writes-as-before key header tag d h = ap (λ (b : List ℕ). b ++ codeFor key header b) (body-short tag d h)
+
+-- a message whose length byte is at most 127: its parts are as before, whatever its size
+module _ (m : List ℕ) (h : getD m 1 0 ≤ 127) where
+  same-length : lengthOf m ≡ lengthBefore m
+  unfolding lengthOf lengthBefore largestShort
+  same-length = says-short (getD m 1 0) (getD m 2 0) h
+
+  same-place : placeOf (lengthOf m) ≡ 2
+  unfolding lengthBefore largestShort
+  same-place = ap placeOf same-length ∙ place-short (getD m 1 0) h
+
+  same-data : dataOf m ≡ dataBefore m
+  unfolding dataOf dataBefore
+  same-data = ap₂ (λ (n p : ℕ). take n (drop p m)) same-length same-place
+
+  same-size : bodySize (lengthOf m) ≡ 2 + lengthBefore m + 2
+  unfolding bodySize
+  same-size = ap₂ (λ (p n : ℕ). p + n + 2) same-place same-length
+
+  same-part : bodyOf m ≡ partBefore m
+  unfolding bodyOf partBefore
+  same-part = ap (λ (k : ℕ). take k m) same-size
+
+  same-code : codeIn m ≡ codeBefore m
+  unfolding codeIn codeBefore
+  same-code = ap (λ (k : ℕ). drop k m) same-size
+
+  few : length (dataBefore m) ≤ 127
+  unfolding dataBefore lengthBefore
+  few = let l = length-take (getD m 1 0) (drop 2 m) in let k = min-le-left (getD m 1 0) (length (drop 2 m)) in omega arith
+
+  same-body : body (tagOf m) (dataOf m) ≡ bodyBefore (tagOf m) (dataBefore m)
+  same-body = ap (body (tagOf m)) same-data ∙ body-short (tagOf m) (dataBefore m) few
+
+  same-most : leb (lengthOf m) largest ≡ leb (lengthBefore m) largestBefore
+  unfolding largest largestBefore lengthBefore
+  same-most = let e = same-length in le-leb (lengthOf m) 255 (omega arith) ∙ sym (le-leb (getD m 1 0) 127 h)
+
+  same-shape : shape m ≡ shapeBefore m
+  unfolding shape shapeBefore
+  same-shape =
+      ap₂ (λ (x y : Bool). tagFits (tagOf m) && (x && (y && eqb (length (codeIn m)) 4))) same-most (ap₂ same same-part same-body)
+      ∙ ap (λ (c : List ℕ). tagFits (tagOf m) && (leb (lengthBefore m) largestBefore && (same (partBefore m) (bodyBefore (tagOf m) (dataBefore m)) && eqb (length c) 4))) same-code
+
+  same-fits : (key header : List ℕ) → codeFits key header m ≡ fitsBefore key header m
+  unfolding codeFits fitsBefore
+  same-fits key header =
+      ap₂ (λ (x y : Bool). given key header && (x && y)) same-shape (ap₂ same same-code (ap (codeFor key header) same-part))
+
+  same-answer : (r : ℕ) → answer r m ≡ answerBefore r m
+  unfolding answer answerBefore
+  same-answer r = ap₂ (λ (p n : ℕ). cond (eqb r 0) (Data (tagOf m) p n) (Refused r)) same-place same-length
+
+  same-shaped : shaped m ≡ shapedBefore m
+  unfolding shaped shapedBefore
+  same-shaped = same-answer (cond (shape m) 0 4) ∙ ap (λ (x : Bool). answerBefore (cond x 0 4) m) same-shape
+
+  same-opened : (key header : List ℕ) → opened key header m ≡ openedBefore key header m
+  unfolding opened openedBefore openNumber numberBefore
+  same-opened key header =
+      same-answer (cond (given key header) (cond (shape m) (cond (codeFits key header m) 0 8) 4) 1)
+      ∙ ap₂ (λ (x y : Bool). answerBefore (cond (given key header) (cond x (cond y 0 8) 4) 1) m) same-shape (same-fits key header)
+
+  same-pin : (r : Card) → pinIn r m ≡ pinBefore r m
+  unfolding pinIn pinBefore
+  same-pin r = ap (decipherPin (smcKey r)) same-data
+
+  same-command : (r : Card) (header : List ℕ) (q : Listed) → forCommand r header m q ≡ base.forCommand r header m q
+  same-command r header Unlisted = refl
+  same-command r header (One c) =
+      ap₂ (λ (x : Bool) (p : PinRead). first (strikes (eqb (r .counters .failures) 65535) (spoils counterFull) ∷ strikes (not x) differs ∷ strikes (not (formatFits c p)) (spoils pinFormat) ∷ []) (takes (orderOf c p)))
+      (same-fits (smiKey r) header)
+      (same-pin r)
+
+  same-inOpen : (r : Card) (header : List ℕ) → inOpen r header m ≡ inOpenBefore r header m
+  unfolding inOpen inOpenBefore
+  same-inOpen r header =
+      ap₂ (λ (x : Bool) (v : Verdict). first (strikes (not (eqb (length header) 4)) (spoils input) ∷ strikes (not x) (spoils shapeWrong) ∷ []) v)
+      same-shape
+      (ap (λ (n : ℕ). forCommand r header m (commandOf header (tagOf m) n)) same-length ∙ same-command r header (commandOf header (tagOf m) (lengthBefore m)))
+
+-- another length byte: such a message was refused, and one of up to 135 bytes still is
+module _ (m : List ℕ) (l : length m ≤ sizeBefore) (h : 127 < getD m 1 0) where
+  refused-before : shapeBefore m ≡ false
+  unfolding shapeBefore lengthBefore largestBefore
+  refused-before = simp (lt-leb (getD m 1 0) 127 h, and-false)
+
+  refused-now : shape m ≡ false
+  unfolding lengthOf largestShort
+  refused-now = go (shape m) refl (says (getD m 1 0) (getD m 2 0))
+    where
+      go : (b : Bool) → shape m ≡ b → Says (getD m 1 0) (getD m 2 0) → shape m ≡ false
+      go false e s = e
+      go true e (one x) = absurd (omega arith)
+      go true e (two x y) =
+          let g = shape-good m e in
+          let n : lengthOf m ≡ getD m 2 0 = says-long (getD m 1 0) (getD m 2 0) x y in
+          let p : placeOf (lengthOf m) ≡ 3 = ap placeOf n ∙ place-long (getD m 2 0) y in
+          let k = g .long in
+          absurd (omega arith)
+      go true e (none x) = let g = shape-good m e in let k = g .most in let n : lengthOf m ≡ largest + 1 = x in absurd (omega arith)
+
+  refused-shaped : shaped m ≡ shapedBefore m
+  unfolding shaped shapedBefore answer answerBefore
+  refused-shaped = simp (refused-now, refused-before)
+
+  refused-opened : (key header : List ℕ) → opened key header m ≡ openedBefore key header m
+  unfolding opened openedBefore openNumber numberBefore answer answerBefore
+  refused-opened key header = go (given key header) refl
+    where
+      go : (b : Bool) → given key header ≡ b → opened key header m ≡ openedBefore key header m
+      go true e = simp (e, refused-now, refused-before)
+      go false e = simp (e)
+
+  refused-inOpen : (r : Card) (header : List ℕ) → inOpen r header m ≡ inOpenBefore r header m
+  unfolding inOpen inOpenBefore
+  refused-inOpen r header = simp (refused-now, refused-before)
+
+-- a message of up to 135 bytes
+module _ (m : List ℕ) (l : length m ≤ sizeBefore) where
+  by-form : {A : Type 0} → (getD m 1 0 ≤ 127 → A) → (127 < getD m 1 0 → A) → A
+  unfolding largestShort
+  by-form {A = A} f g = go (form (getD m 1 0))
+    where
+      go : Form (getD m 1 0) → A
+      go (short h) = f h
+      go (long h) = g h
+
+  pub shaped-as-before : shaped m ≡ base.shaped m
+  shaped-as-before = by-form (same-shaped m) (refused-shaped m l)
+
+  pub opened-as-before : (key header : List ℕ) → opened key header m ≡ base.opened key header m
+  opened-as-before key header = by-form (λ h. same-opened m h key header) (λ h. refused-opened m l h key header)
+
+  pub judged-as-before : (r : Card) (header : List ℕ) → judged r header m ≡ base.judged r header m
+  unfolding judged judgedBefore
+  judged-as-before r header =
+      ap (first (strikes (not (sound r)) (refuses input) ∷ strikes (not (isOpen (r .transaction .phase))) (refuses phaseWrong) ∷ []))
+      (by-form (λ h. same-inOpen m h r header) (λ h. refused-inOpen m l h r header))

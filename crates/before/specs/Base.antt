@@ -1,0 +1,125 @@
+-- Messages, scripts and lines by 01 alone, before Wish 1: L from 0 to 127 in one byte, lines up to 280 digits. Each definition has the name of the
+-- one that stands in its place now; what does not touch the length field or the longest line is taken from there. Assumes nothing.
+use Prim.Native.Nat.{ℕ, _+_}
+use mathlib.Core.Bool.{Bool, true, not, _&&_, cond}
+use mathlib.Core.List.{List, [], _∷_, _++_}
+use lib.Dec.{leb, eqb}
+use lib.ListN.{length, getD, take, drop}
+use Rattle.octets.specs.Same.{same}
+use Rattle.pin.specs.declared.PinRead.{PinRead}
+use Rattle.pin.specs.Answers.{decipherPin}
+use Rattle.message.specs.declared.Opened.{Opened}
+use Rattle.message.specs.declared.Opened.the-variants.{Data, Refused}
+use Rattle.message.specs.declared.command.Listed.{Listed}
+use Rattle.message.specs.declared.command.Listed.the-variants.{One, Unlisted}
+use Rattle.message.specs.Shape.{tagFits, codeHead, tagOf}
+use Rattle.message.specs.Code.{codeFor, given}
+use Rattle.message.specs.Command.{commandOf}
+use Rattle.card.specs.declared.Card.{Card}
+use Rattle.card.specs.declared.Reply.{Reply}
+use Rattle.card.specs.Record.{isOpen, sound}
+use Rattle.card.specs.Keys.{smiKey, smcKey}
+use Rattle.card.specs.Calls.{strikes, first, input, shapeWrong, notListed, phaseWrong, counterFull, pinFormat, Verdict, refuses, spoils, differs, takes, orderOf, formatFits, scriptAs}
+use Rattle.trace.specs.declared.Held.{Held}
+use Rattle.trace.specs.Lines.{lastFrame, lines, octetsOf, hexadecimal, lineFor}
+use Rattle.trace.specs.Frames.{nothing, Answer, numbered, personalisedBy, starts, called as calledNow, replied}
+
+-- "one length byte L from 0 to 127"
+unfoldable pub largest : ℕ
+largest = 127
+
+unfoldable pub lengthOf : List ℕ → ℕ
+lengthOf m = getD m 1 0
+
+-- MSG, and the parts of a message
+unfoldable pub body : ℕ → List ℕ → List ℕ
+body tag d = tag ∷ length d ∷ d ++ codeHead
+
+unfoldable pub dataOf : List ℕ → List ℕ
+dataOf m = take (lengthOf m) (drop 2 m)
+
+unfoldable pub bodyOf : List ℕ → List ℕ
+bodyOf m = take (2 + lengthOf m + 2) m
+
+unfoldable pub codeIn : List ℕ → List ℕ
+codeIn m = drop (2 + lengthOf m + 2) m
+
+unfoldable pub shape : List ℕ → Bool
+shape m = tagFits (tagOf m) && (leb (lengthOf m) largest && (same (bodyOf m) (body (tagOf m) (dataOf m)) && eqb (length (codeIn m)) 4))
+
+-- the code, opening, and the message that is written
+unfoldable pub codeFits : List ℕ → List ℕ → List ℕ → Bool
+codeFits key header m = given key header && (shape m && same (codeIn m) (codeFor key header (bodyOf m)))
+
+unfoldable pub answer : ℕ → List ℕ → Opened
+answer r m = cond (eqb r 0) (Data (tagOf m) 2 (lengthOf m)) (Refused r)
+
+unfoldable pub shaped : List ℕ → Opened
+shaped m = answer (cond (shape m) 0 4) m
+
+unfoldable pub openNumber : List ℕ → List ℕ → List ℕ → ℕ
+openNumber key header m = cond (given key header) (cond (shape m) (cond (codeFits key header m) 0 8) 4) 1
+
+unfoldable pub opened : List ℕ → List ℕ → List ℕ → Opened
+opened key header m = answer (openNumber key header m) m
+
+unfoldable pub message : List ℕ → List ℕ → ℕ → List ℕ → List ℕ
+message key header tag d = body tag d ++ codeFor key header (body tag d)
+
+-- Script
+unfoldable pub pinIn : Card → List ℕ → PinRead
+pinIn r m = decipherPin (smcKey r) (dataOf m)
+
+abbrev pub forCommand : Card → List ℕ → List ℕ → Listed → Verdict
+forCommand r h m Unlisted = spoils notListed
+forCommand r h m (One c) =
+    first
+    (strikes (eqb (r .counters .failures) 65535) (spoils counterFull)
+    ∷ strikes (not (codeFits (smiKey r) h m)) differs
+    ∷ strikes (not (formatFits c (pinIn r m))) (spoils pinFormat)
+    ∷ [])
+    (takes (orderOf c (pinIn r m)))
+
+unfoldable pub inOpen : Card → List ℕ → List ℕ → Verdict
+inOpen r h m =
+    first
+    (strikes (not (eqb (length h) 4)) (spoils input)
+    ∷ strikes (not (shape m)) (spoils shapeWrong)
+    ∷ [])
+    (forCommand r h m (commandOf h (tagOf m) (lengthOf m)))
+
+unfoldable pub judged : Card → List ℕ → List ℕ → Verdict
+judged r h m =
+    first
+    (strikes (not (sound r)) (refuses input)
+    ∷ strikes (not (isOpen (r .transaction .phase))) (refuses phaseWrong)
+    ∷ [])
+    (inOpen r h m)
+
+-- "more than 280 digits is 13"
+unfoldable pub longest : ℕ
+longest = 280
+
+unfoldable pub readable : List ℕ → Bool
+readable l = leb (length l) longest && (hexadecimal l && leb (getD (octetsOf l) 0 0) lastFrame)
+
+-- frames: of the calls only Script reads a message
+unfoldable pub called : Card → ℕ → List ℕ → Reply
+called r f s = cond (eqb f 3) (scriptAs r (judged r (take 4 s) (drop 4 s))) (calledNow r f s)
+
+unfoldable pub calling : Held → ℕ → List ℕ → Answer
+calling h f s = cond (h .exists) (replied f (called (h .card) f s)) (numbered h 6)
+
+unfoldable pub framed : Held → ℕ → List ℕ → Answer
+framed h f s = cond (eqb f 0) (starts h (personalisedBy s)) (calling h f s)
+
+unfoldable pub answerTo : Held → List ℕ → Answer
+answerTo h l = cond (readable l) (framed h (getD (octetsOf l) 0 0) (drop 1 (octetsOf l))) (numbered h 13)
+
+-- the clerk's trace
+unfoldable pub answers : Held → List (List ℕ) → List ℕ
+answers h [] = []
+answers h (l ∷ ls) = lineFor (answerTo h l .octets) ++ answers (answerTo h l .after) ls
+
+unfoldable pub traced : List ℕ → List ℕ
+traced text = answers nothing (lines text)

@@ -56,7 +56,7 @@ module _ (l : List ℕ) (k : length l ≤ lineBefore) where
   same-readable : readable l ≡ readableBefore l
   unfolding readable readableBefore longestBefore
   same-readable =
-      ap (λ (x : Bool). x && (hexadecimal l && leb (getD (octetsOf l) 0 0) lastFrame)) (le-leb (length l) longest (omega arith) ∙ sym (le-leb (length l) 280 k))
+      ap (λ (x : Bool). x && (hexadecimal l && leb (getD (octetsOf l) 0 0) lastFrame)) (le-leb (length l) longest (omega arith) ∙ sym (le-leb (length l) 280 (omega arith)))
 
   same-line : (h : Held) → answerTo h l ≡ answerBefore h l
   unfolding answerTo answerBefore

@@ -1,3 +1,4 @@
+use native.Mathlib.Omega.{arith}
 use mathlib.Core.Path.{sym}
 use Rattle.message.specs.Length.{largestShort}
 use Rattle.message.proofs.LengthLaws.{place-short, place-long}
@@ -6,11 +7,11 @@ use Rattle.message.proofs.place_of.Tie as tie
 
 returns : tie.Need-returns
 unfolding largestShort
-returns c = sym (place-short _ (c .if1 .taken))
+returns c = sym (place-short _ (omega arith))
 
 returns-2 : tie.Need-returns-2
 unfolding largestShort
-returns-2 c = sym (place-long _ (c .if1 .left))
+returns-2 c = sym (place-long _ (omega arith))
 
 pub place-of-spec : {M : Type 1} → statement M
 place-of-spec = tie.close (tie.spec returns returns-2)

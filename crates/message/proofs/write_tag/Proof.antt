@@ -12,7 +12,7 @@ slice-write-part c = omega (arith, place-is (c .args .n))
 
 slice-write-part-2 : tie.Need-slice-write-part-2
 unfolding largestShort
-slice-write-part-2 c = simp length-set (omega (arith, place-long (c .before .args .n) (c .if1 .taken)))
+slice-write-part-2 c = simp length-set (omega (arith, place-long (c .before .args .n) (omega arith)))
 
 cast-part-2 : tie.Need-cast-part-2
 unfolding largest
@@ -20,19 +20,19 @@ cast-part-2 c = record { fits = omega arith }
 
 slice-write-part-3 : tie.Need-slice-write-part-3
 unfolding largestShort
-slice-write-part-3 c = simp length-set (omega (arith, place-long (c .before .args .n) (c .if1 .taken)))
+slice-write-part-3 c = simp length-set (omega (arith, place-long (c .before .args .n) (omega arith)))
 
 returns : tie.Need-returns
 unfolding largestShort
-returns c = tag-long (c .before .args .part .now) (c .before .args .tag) (c .before .args .n) (c .if1 .taken) (c .before .pre .1)
+returns c = tag-long (c .before .args .part .now) (c .before .args .tag) (c .before .args .n) (omega arith) (c .before .pre .1)
 
 slice-write-part-4 : tie.Need-slice-write-part-4
 unfolding largestShort
-slice-write-part-4 c = simp length-set (omega (arith, place-short (c .before .args .n) (c .if1 .left)))
+slice-write-part-4 c = simp length-set (omega (arith, place-short (c .before .args .n) (omega arith)))
 
 returns-2 : tie.Need-returns-2
 unfolding largestShort
-returns-2 c = tag-short (c .before .args .part .now) (c .before .args .tag) (c .before .args .n) (c .if1 .left) (c .before .pre .1)
+returns-2 c = tag-short (c .before .args .part .now) (c .before .args .tag) (c .before .args .n) (omega arith) (c .before .pre .1)
 
 pub write-tag-spec : {M : Type 1} → statement M
 write-tag-spec =

@@ -6,10 +6,11 @@
 use crate::cipher::{code, decipher, encipher};
 use crate::cryptogram::{arpc, cryptogram, Kind};
 use crate::derive::derive;
+use crate::forms::Form;
 use crate::hash::hash;
 use crate::hmac::hmac;
 use crate::keys::{card_key, card_key_packed, counter_key, idn, script_key, session_key};
-use crate::message::{open, wrap, wrapped, CLEAR, ENCIPHERED, LARGEST};
+use crate::message::{coded, open, wrap, wrapped, CLEAR, ENCIPHERED, LARGEST, LARGEST_SHORT};
 use crate::octets::{exact, from_hex, to_hex};
 use crate::pin;
 use crate::random::Random;
@@ -364,35 +365,38 @@ impl Caller {
         self.random.choose(&[ENCIPHERED, CLEAR, ENCIPHERED, CLEAR, ENCIPHERED, CLEAR, other, 0x86])
     }
 
-    /// Data up to 127 bytes mostly, and places that fit, just fit, just do not, or lie far beyond.
+    /// Data up to 255 bytes mostly, and places that fit, just fit, just do not, or lie far beyond.
     fn wrapping(&mut self) -> Vec<Argument> {
         let any = self.random.below(LARGEST + 1);
-        let mut length = self.random.choose(&[0, 1, 8, 126, 127, any, any, any]);
+        let mut length = self.random.choose(&[0, 1, 8, 126, 127, 128, 129, 254, 255, any, any, any, any, any]);
         if self.random.once_in(12) {
-            length = self.random.choose(&[128, 129, 255, 256, 300]);
+            length = self.random.choose(&[256, 257, 264, 300]);
         }
         let data = self.random.bytes(length);
-        let size = length as u64 + 8;
+        let size = length as u64 + if length <= LARGEST_SHORT { 8 } else { 9 };
         let beside = self.random.below(40) as u64;
         let place = self.random.choose(&[0, beside, beside]);
-        let buffer = if self.random.once_in(6) { self.random.below(150) } else { (size + beside) as usize };
+        let buffer = if self.random.once_in(6) { self.random.below(280) } else { (size + beside) as usize };
         let near = self.random.below(300) as u64;
         let end = buffer as u64;
-        let far = [end, end + 1, end.saturating_sub(size) + 1, u64::MAX, u64::MAX - near, u64::MAX - size, (u64::MAX - size) + 1, 1 << 63, 1 << 32];
-        let place = if self.random.once_in(4) { self.random.choose(&far) } else { place };
+        let short = end.saturating_sub(size) + 1;
+        let far = [end, end + 1, u64::MAX, u64::MAX - near, u64::MAX - size, (u64::MAX - size) + 1, 1 << 63, 1 << 32];
+        let far = self.random.choose(&far);
+        let place = self.random.choose(&[place, place, place, place, place, short, far, far]);
         let (key, header) = (self.text(32), self.text(4));
         let tag = Number(self.tag().into());
         let buffer = self.random.bytes(buffer);
         vec![key, header, tag, self.given(data), Lent(self.pointed(buffer)), Number(place)]
     }
 
-    /// A wrapped message, mostly whole; else with a byte changed, cut, lengthened, or any bytes at all.
+    /// A wrapped message, mostly whole; else with a byte changed, cut, lengthened, its length in a form that is not read, or a few bytes.
     fn opening(&mut self) -> Vec<Argument> {
         let (key, header) = (self.random.array::<32>(), self.random.array::<4>());
-        let length = self.random.below(LARGEST + 1);
+        let any = self.random.below(LARGEST + 1);
+        let length = self.random.choose(&[0, 127, 128, 255, any, any, any, any]);
         let tag = self.random.choose(&[ENCIPHERED, CLEAR]);
         let mut message = wrapped(&key, &header, tag, &self.random.bytes(length)).expect("good tag and length");
-        match self.random.below(10) {
+        match self.random.below(13) {
             0 => {
                 let place = message.len() - 1 - self.random.below(4);
                 message[place] ^= 1 << self.random.below(8);
@@ -401,10 +405,18 @@ impl Caller {
                 let place = self.random.below(message.len());
                 message[place] ^= 1 << self.random.below(8);
             }
-            2 => message.truncate(self.random.below(length + 8)),
+            2 => message.truncate(self.random.below(message.len())),
             3 => message.push(self.random.byte()),
-            4 => message = long_message(&mut self.random),
-            5 => message = self.random.choose(&[&[][..], &[0x87], &[0x81, 0], &[0x81, 0, 0x8e, 4, 0, 0, 0]]).to_vec(),
+            4 => message.extend(self.random.bytes(256)),
+            5..=7 => {
+                let form = Form::any(&mut self.random);
+                let length = form.length(&mut self.random);
+                message = coded(&key, &header, tag, &form.field(length), &self.random.bytes(length));
+            }
+            8 => {
+                let few = [&[][..], &[0x87], &[0x81, 0], &[0x87, 0x81], &[0x87, 0x81, 0x80], &[0x81, 0x81, 0], &[0x81, 0, 0x8e, 4, 0, 0, 0]];
+                message = self.random.choose(&few).to_vec();
+            }
             _ => {}
         }
         let key = self.resized(key.to_vec());
@@ -420,12 +432,6 @@ impl Caller {
     }
 }
 
-/// Of good shape but for a length byte of 80 and more.
-fn long_message(random: &mut Random) -> Vec<u8> {
-    let length = random.within(128, 255);
-    [&[ENCIPHERED, length as u8], &random.bytes(length)[..], &[0x8e, 4, 0, 0, 0, 0]].concat()
-}
-
 #[cfg(test)]
 mod tests {
     use super::*;
@@ -436,6 +442,43 @@ mod tests {
         for i in 0..500 {
             let line = caller.call(i);
             assert_eq!(check(&line), Ok(LIBRARY[i % 16].name));
+        }
+    }
+
+    /// The calls that tests/second makes have the edges of the two forms of a length among them.
+    #[test]
+    fn lengths_that_must_come() {
+        let mut caller = Caller::new(20171219);
+        let lines: Vec<String> = (0..24000).map(|i| caller.call(i)).collect();
+        let of = |name| lines.iter().map(|line| line.split(' ').collect::<Vec<_>>()).filter(move |words| words[0] == name).collect::<Vec<_>>();
+        let (wraps, opens) = (of("box_wrap"), of("box_open"));
+        let size = |word: &str| from_hex(word.as_bytes()).map_or(0, |bytes| bytes.len());
+        // key, header and tag are right, and from the place on the buffer has so many bytes
+        let wrap = |number: &str, length: usize, room: usize| {
+            wraps.iter().any(|words| {
+                let right = size(words[2]) == 32 && size(words[3]) == 4 && ["81", "87"].contains(&words[4]);
+                let place = u64::from_str_radix(words[8], 16).expect("a number");
+                right && words[1] == number && size(words[5]) == length && place.checked_add(room as u64) == Some(size(words[6]) as u64)
+            })
+        };
+        for length in [0, 126, 127] {
+            assert!(wrap("0", length, length + 8) && wrap("3", length, length + 7), "{length}");
+        }
+        for length in [128, 129, 254, 255] {
+            assert!(wrap("0", length, length + 9) && wrap("3", length, length + 8), "{length}");
+        }
+        for length in [256, 257, 300] {
+            assert!(wrap("1", length, length + 9), "{length}");
+        }
+        let open = |number: &str, field: &str, length: usize| {
+            let fits = |message: &str| size(message) == 1 + size(field) + length + 6 && message[2..].starts_with(field);
+            opens.iter().any(|words| words[1] == number && fits(words[4]))
+        };
+        for (field, length) in [("00", 0), ("7f", 127), ("8180", 128), ("81ff", 255)] {
+            assert!(open("0", field, length), "{field}");
+        }
+        for (field, length) in [("80", 128), ("82", 130), ("ff", 255), ("8100", 0), ("817f", 127), ("8200ff", 255)] {
+            assert!(open("4", field, length), "{field}");
         }
     }
 

@@ -235,7 +235,7 @@ impl Record {
 #[cfg(test)]
 mod tests {
     use super::*;
-    use crate::message::{wrapped, CLEAR, ENCIPHERED};
+    use crate::message::{coded, wrapped, CLEAR, ENCIPHERED};
 
     fn fresh() -> Record {
         let pin = Pin::of_digits(&[1, 2, 3, 4]).unwrap();
@@ -398,9 +398,24 @@ mod tests {
                 let message = wrapped(&key, &header, command.tag(), &vec![0; command.length()]).unwrap();
                 spoils(&record, &header, &message, Refusal::Command);
             }
-            for (tag, length) in [(ENCIPHERED, 0), (CLEAR, 8), (command.tag(), command.length() + 1)] {
+            for (tag, length) in [(ENCIPHERED, 0), (CLEAR, 8), (command.tag(), command.length() + 1), (command.tag(), command.length() + 128)] {
                 let message = wrapped(&key, &command.header(), tag, &vec![0; length]).unwrap();
                 spoils(&record, &command.header(), &message, Refusal::Command);
+            }
+        }
+    }
+
+    /// A reader of other forms would take these for the command.
+    #[test]
+    fn a_listed_length_in_another_form() {
+        let record = opened();
+        let key = script_key(&record.smi, &record.cryptogram);
+        for command in Command::ALL {
+            let data = message_for(&record, command, &[1, 1, 1, 1])[2..2 + command.length()].to_vec();
+            for before in [&[0x81][..], &[0x82, 0x00], &[0x81, 0x80]] {
+                let field = [before, &[data.len() as u8]].concat();
+                let message = coded(&key, &command.header(), command.tag(), &field, &data);
+                spoils(&record, &command.header(), &message, Refusal::Shape);
             }
         }
     }

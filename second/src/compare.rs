@@ -222,7 +222,7 @@ fn in_parts(mut input: &[u8], mut stdin: ChildStdin, seed: u64, progress: &Progr
             return;
         }
         input = rest;
-        length = random.choose(&[1, 1, 2, 3, 16, 50, 139, 280, 281, 1000, 4096, 5000]);
+        length = random.choose(&[1, 1, 2, 3, 16, 50, 139, 280, 281, 538, 539, 1000, 4096, 5000]);
         lines += line_feeds(part);
         if waits > 0 {
             waits = if progress.reach(lines) { waits - 1 } else { 0 };

@@ -4,14 +4,18 @@
 use crate::card::{Phase, Record};
 use crate::cipher::encipher;
 use crate::cryptogram::arpc;
+use crate::forms::Form;
 use crate::keys::{script_key, session_key};
-use crate::message::{wrapped, Command, CLEAR, ENCIPHERED, LARGEST};
+use crate::message::{coded, wrapped, Command, CLEAR, ENCIPHERED, LARGEST, LARGEST_SHORT};
 use crate::octets::{to_hex, Key};
 use crate::pin;
 use crate::random::Random;
-use crate::trace::Run;
+use crate::trace::{Run, LONGEST};
 
 type Line = Vec<u8>;
+
+/// The most bytes that follow the first one of a frame.
+const MOST: usize = LONGEST / 2 - 1;
 
 /// The trace of a seed.
 pub fn trace(seed: u64) -> Vec<u8> {
@@ -172,7 +176,7 @@ impl Clerk {
     /// Any frame from a first one on, of any length that can be read.
     fn any_frame(&mut self, from: u8) -> Line {
         let first = self.random.within(from.into(), 6) as u8;
-        let any = self.random.below(140);
+        let any = self.random.below(MOST + 1);
         let length = self.random.choose(&[0, 0, 1, 3, 4, 12, 65, 115, any]);
         frame(first, &self.random.bytes(length))
     }
@@ -189,7 +193,7 @@ impl Clerk {
 
     fn with_bytes_after(&mut self) -> Line {
         let first = self.random.choose(&[4, 5, 6]);
-        let count = self.random.choose(&[1, 1, 2, 139]);
+        let count = self.random.choose(&[1, 1, 2, 139, 256, 256, MOST]);
         frame(first, &self.random.bytes(count))
     }
 
@@ -260,7 +264,8 @@ impl Clerk {
                 frame(0, &rest)
             }
             3 => {
-                let extra = self.random.within(1, 24);
+                let any = self.random.within(1, MOST - 115);
+                let extra = self.random.choose(&[1, 24, 25, any]);
                 frame(0, &[self.personalise_with(0, good), self.random.bytes(extra)].concat())
             }
             _ => frame(0, &self.personalise_with(0, bad)),
@@ -273,7 +278,7 @@ impl Clerk {
     }
 
     fn open_of_wrong_length(&mut self) -> Line {
-        let any = self.random.below(140);
+        let any = self.random.below(MOST + 1);
         let length = self.random.choose(&[0, 64, 66, any]);
         frame(1, &self.random.bytes(length))
     }
@@ -288,9 +293,10 @@ impl Clerk {
 
     fn wrong_issuer_answer(&mut self) -> Line {
         let mut line = self.issuer_answer();
-        match self.random.below(4) {
+        match self.random.below(5) {
             0 => line.truncate(2 * self.random.within(1, 12)),
             1 => line.extend(b"00"),
+            2 => line.resize(LONGEST, b'0'),
             _ => {
                 let place = self.random.within(2, 25);
                 line[place] = if line[place] == b'0' { b'1' } else { b'0' };
@@ -307,9 +313,17 @@ impl Clerk {
         encipher(&script_key(&self.record().smc, &self.record().cryptogram), block).to_vec()
     }
 
-    fn good_message(&mut self, command: Command) -> Vec<u8> {
+    fn good_data(&mut self, command: Command) -> Vec<u8> {
         let block = self.good_pin_block();
-        let data = if command == Command::ChangePin { self.enciphered(&block) } else { vec![] };
+        if command == Command::ChangePin {
+            self.enciphered(&block)
+        } else {
+            vec![]
+        }
+    }
+
+    fn good_message(&mut self, command: Command) -> Vec<u8> {
+        let data = self.good_data(command);
         wrapped(&self.smi(), &command.header(), command.tag(), &data).expect("a listed command")
     }
 
@@ -327,14 +341,15 @@ impl Clerk {
     }
 
     fn bad_script(&mut self) -> Line {
-        match self.random.weighted(&[2, 6, 6, 6, 6]) {
+        match self.random.weighted(&[2, 6, 6, 6, 6, 6]) {
             0 => {
                 let length = self.random.below(4);
                 script(&self.command().header()[..length], &[])
             }
             1 => self.misshapen_script(),
-            2 => self.unlisted_script(),
-            3 => self.miscoded_script(),
+            2 => self.misformed_script(),
+            3 => self.unlisted_script(),
+            4 => self.miscoded_script(),
             _ => {
                 let block = self.bad_pin_block();
                 let header = Command::ChangePin.header();
@@ -343,42 +358,68 @@ impl Clerk {
         }
     }
 
-    /// Refusal 4: one part of the shape is wrong.
+    /// Refusal 4: one part of the shape is wrong, of a listed command or of a message with a length of two bytes.
     fn misshapen_script(&mut self) -> Line {
         let command = self.command();
-        let mut message = self.good_message(command);
-        let length = command.length();
-        match self.random.below(9) {
+        let header = command.header();
+        let data = if self.random.once_in(3) {
+            let length = self.random.within(LARGEST_SHORT + 1, LARGEST);
+            self.random.bytes(length)
+        } else {
+            self.good_data(command)
+        };
+        let mut message = wrapped(&self.smi(), &header, command.tag(), &data).expect("known tag");
+        let end = message.len() - 6;
+        let place = end - data.len();
+        match self.random.below(11) {
             0 => message.clear(),
             1 => message[0] = self.random.choose(&[0x86, 0x88, 0x80, 0x00, 0x07]),
-            2 => message[1] = message[1].wrapping_add(1),
-            3 => message[1] = message[1].wrapping_sub(1),
-            4 => message[1] |= 0x80,
-            5 => message[2 + length] ^= 1 << self.random.below(8),
-            6 => message[3 + length] ^= 1 << self.random.below(8),
-            7 => message.truncate(self.random.below(length + 8)),
+            2 => message[place - 1] = message[place - 1].wrapping_add(1),
+            3 => message[place - 1] = message[place - 1].wrapping_sub(1),
+            4 => message[1] ^= 0x80,
+            5 => message[end] ^= 1 << self.random.below(8),
+            6 => message[end + 1] ^= 1 << self.random.below(8),
+            7 => message.truncate(self.random.below(message.len())),
+            8 => message.truncate(self.random.within(1, place)),
+            9 if data.is_empty() => message.extend(self.random.bytes(256)),
             _ => {
                 let extra = self.random.within(1, 10);
                 message.extend(self.random.bytes(extra));
             }
         }
-        script(&command.header(), &message)
+        script(&header, &message)
+    }
+
+    /// Refusal 4: all is right but the form of the length; one who reads that form at times sees a listed command.
+    fn misformed_script(&mut self) -> Line {
+        let command = self.command();
+        let header = command.header();
+        let form = Form::any(&mut self.random);
+        let data = if form.takes(command.length()) && self.random.once_in(2) {
+            self.good_data(command)
+        } else {
+            let length = form.length(&mut self.random);
+            self.random.bytes(length)
+        };
+        script(&header, &coded(&self.smi(), &header, command.tag(), &form.field(data.len()), &data))
     }
 
     /// Refusal 5: a good code, mostly, on a command that is not listed.
     fn unlisted_script(&mut self) -> Line {
         let command = self.command();
         let (mut header, mut tag, mut length) = (command.header(), command.tag(), command.length());
-        match self.random.below(8) {
+        match self.random.below(11) {
             place @ 0..=3 => header[place] = self.random.byte(),
             4 => header[1] = self.random.choose(&[0x24, 0x1e, 0x18, 0x16]),
             5 => tag ^= ENCIPHERED ^ CLEAR,
-            6 => length = self.random.choose(&[length + 1, 7, 9, LARGEST]),
+            6 => length = self.random.choose(&[length + 1, 7, 9]),
+            7 | 8 => length = self.random.choose(&[LARGEST_SHORT, LARGEST_SHORT + 1, length + 128, LARGEST]),
             _ => length = self.random.below(LARGEST + 1),
         }
         let mut message = wrapped(&self.smi(), &header, tag, &self.random.bytes(length)).expect("known tag");
         if self.random.once_in(4) {
-            message[length + 7] ^= 1;
+            let last = message.len() - 1;
+            message[last] ^= 1;
         }
         script(&header, &message)
     }
@@ -452,9 +493,9 @@ impl Clerk {
                 line[..2].copy_from_slice(first.as_bytes());
             }
             11 | 12 => line = self.line_at_the_edge(),
-            _ if self.random.once_in(12) => line = vec![b'0'; self.random.within(283, 70_000)],
+            _ if self.random.once_in(12) => line = vec![b'0'; self.random.within(541, 70_000)],
             _ => {
-                let length = self.random.within(1, 290);
+                let length = self.random.within(1, 560);
                 line = self.random.bytes(length).into_iter().filter(|&byte| byte != b'\n').collect();
             }
         }
@@ -480,14 +521,16 @@ impl Clerk {
         }
     }
 
-    /// 279 to 283 digits. The 280 of a script with the most data are a frame like any other.
+    /// 537 to 541 digits, or 279 to 283, where the edge was before Wish 1. The 538 of a script with the most data are a frame like any other, and so
+    /// are the 280 with the most that have a length of one byte.
     fn line_at_the_edge(&mut self) -> Line {
         let open = self.run.record.as_ref().is_some_and(Record::is_open);
         let key = if open { self.smi() } else { [0; 32] };
         let header = self.command().header();
-        let message = wrapped(&key, &header, ENCIPHERED, &self.random.bytes(LARGEST)).expect("127 bytes");
+        let (length, edge) = self.random.choose(&[(LARGEST, LONGEST), (LARGEST, LONGEST), (LARGEST_SHORT, 280)]);
+        let message = wrapped(&key, &header, ENCIPHERED, &self.random.bytes(length)).expect("up to 255 bytes");
         let mut line = script(&header, &message);
-        line.resize(self.random.within(279, 283), b'0');
+        line.resize(self.random.within(edge - 1, edge + 3), b'0');
         line[1] = self.random.choose(b"33333012456");
         line
     }

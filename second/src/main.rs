@@ -6,6 +6,7 @@ mod cipher;
 mod compare;
 mod cryptogram;
 mod derive;
+mod forms;
 mod generate;
 mod hash;
 mod hmac;

@@ -1,4 +1,4 @@
-//! Script messages (R 1323565.1.008, clause 4.1) and the commands that the card knows.
+//! Script messages (R 1323565.1.008, clause 4.1; the forms of their length as Wish 1 has them) and the commands that the card knows.
 
 use crate::cipher::code as authentication_code;
 use crate::octets::Key;
@@ -6,9 +6,10 @@ use crate::refusal::Refusal;
 
 pub const ENCIPHERED: u8 = 0x87;
 pub const CLEAR: u8 = 0x81;
-/// The largest length of the data, and what a message has beside them.
-pub const LARGEST: usize = 127;
-pub const FRAME: usize = 8;
+/// The largest length of the data, the largest that one byte writes, and the first of two bytes that write a length.
+pub const LARGEST: usize = 255;
+pub const LARGEST_SHORT: usize = 127;
+pub const LONG: u8 = 0x81;
 
 pub type Header = [u8; 4];
 
@@ -24,13 +25,29 @@ fn known(tag: u8) -> bool {
     tag == ENCIPHERED || tag == CLEAR
 }
 
+/// The field that writes a length: 0 to 127 as one byte, 128 to 255 as 81 and the length; there is none for more.
+fn length_field(length: usize) -> Option<Vec<u8>> {
+    let byte = u8::try_from(length).ok()?;
+    Some(if length <= LARGEST_SHORT { vec![byte] } else { vec![LONG, byte] })
+}
+
+/// The length that the bytes start with, and the size of its field; no other form is read.
+fn read_length(bytes: &[u8]) -> Option<(usize, usize)> {
+    match *bytes {
+        [length @ 0x00..=0x7f, ..] => Some((length.into(), 1)),
+        [LONG, length @ 0x80..=0xff, ..] => Some((length.into(), 2)),
+        _ => None,
+    }
+}
+
 /// Table 2: tag, length, data, 8e, 04, code of four bytes; nothing follows.
 pub fn shape(message: &[u8]) -> Result<Opened, Refusal> {
-    let [tag, length, ..] = *message else { return Err(Refusal::Shape) };
-    let length = usize::from(length);
-    let good = known(tag) && length <= LARGEST && message.len() == length + FRAME && message[2 + length..4 + length] == [0x8e, 0x04];
-    if good {
-        Ok(Opened { tag, place: 2, length })
+    let (&tag, rest) = message.split_first().ok_or(Refusal::Shape)?;
+    let (length, field) = read_length(rest).ok_or(Refusal::Shape)?;
+    let place = 1 + field;
+    let end = place + length;
+    if known(tag) && message.len() == end + 6 && message[end..end + 2] == [0x8e, 0x04] {
+        Ok(Opened { tag, place, length })
     } else {
         Err(Refusal::Shape)
     }
@@ -59,13 +76,16 @@ pub fn open(key: &Key, header: &Header, message: &[u8]) -> Result<Opened, Refusa
     }
 }
 
+/// The data under a tag and a length field, whatever they say, and the code of that.
+pub fn coded(key: &Key, header: &Header, tag: u8, field: &[u8], data: &[u8]) -> Vec<u8> {
+    let uncoded = [&[tag], field, data, &[0x8e, 0x04]].concat();
+    [&uncoded[..], &code(key, header, &uncoded)].concat()
+}
+
 /// A message of good shape, or refusal 1 for its tag or length.
 pub fn wrapped(key: &Key, header: &Header, tag: u8, data: &[u8]) -> Result<Vec<u8>, Refusal> {
-    if !known(tag) || data.len() > LARGEST {
-        return Err(Refusal::Range);
-    }
-    let uncoded = [&[tag, data.len() as u8], data, &[0x8e, 0x04]].concat();
-    Ok([&uncoded[..], &code(key, header, &uncoded)].concat())
+    let field = length_field(data.len()).filter(|_| known(tag)).ok_or(Refusal::Range)?;
+    Ok(coded(key, header, tag, &field, data))
 }
 
 /// Writes a message into the buffer from the place on: 1, 3. Every other byte stays.
@@ -120,24 +140,139 @@ impl Command {
 #[cfg(test)]
 mod tests {
     use super::*;
+    use crate::random::Random;
+
+    const KEY: Key = [3; 32];
+    const HEADER: Header = [1, 2, 3, 4];
 
     #[test]
     fn opening_what_was_wrapped() {
-        for length in 0..=130 {
-            let data = vec![0x5a; length];
+        for length in 0..=260 {
+            let data = Random::new(length as u64).bytes(length);
             for tag in [ENCIPHERED, CLEAR] {
-                let wrapped = wrapped(&[3; 32], &[1, 2, 3, 4], tag, &data);
-                if length > LARGEST {
-                    assert_eq!(wrapped, Err(Refusal::Range));
+                let made = wrapped(&KEY, &HEADER, tag, &data);
+                if length > 255 {
+                    assert_eq!(made, Err(Refusal::Range));
                     continue;
                 }
-                let message = wrapped.unwrap();
-                assert_eq!(message.len(), length + FRAME);
-                assert_eq!(open(&[3; 32], &[1, 2, 3, 4], &message), Ok(Opened { tag, place: 2, length }));
-                assert_eq!(open(&[3; 32], &[1, 2, 3, 5], &message), Err(Refusal::Code));
+                let message = made.unwrap();
+                let place = if length < 128 { 2 } else { 3 };
+                assert_eq!(message.len(), place + length + 6);
+                assert_eq!(open(&KEY, &HEADER, &message), Ok(Opened { tag, place, length }));
+                assert_eq!(message[place..place + length], data);
+                assert_eq!(open(&KEY, &[1, 2, 3, 5], &message), Err(Refusal::Code));
             }
         }
-        assert_eq!(wrapped(&[3; 32], &[0; 4], 0x86, &[]), Err(Refusal::Range));
+        assert_eq!(wrapped(&KEY, &HEADER, 0x86, &[]), Err(Refusal::Range));
+    }
+
+    /// Fields of one, two and three bytes, and the length that each would mean.
+    fn fields() -> Vec<(Vec<u8>, usize)> {
+        let one = (0..=255).map(|l| vec![l]);
+        let two = (0..=255).map(|l| vec![0x81, l]);
+        let other = (0x80..=0xff).filter(|&first| first != 0x81).flat_map(|first| [0x00, 0x08, 0x7f, 0x80, 0xff].map(|l| vec![first, l]));
+        let three = (0..=255).map(|l| vec![0x82, 0, l]);
+        one.chain(two).chain(other).chain(three).map(|field| (field.clone(), field[field.len() - 1].into())).collect()
+    }
+
+    /// Size and code fit the length. One form of each is read, and wrapping the data gives the same message; any other is 4.
+    #[test]
+    fn wrapping_what_was_opened() {
+        for tag in [ENCIPHERED, CLEAR] {
+            let mut read = vec![];
+            for (field, length) in fields() {
+                let data = vec![0x5a; length];
+                let message = coded(&KEY, &HEADER, tag, &field, &data);
+                match open(&KEY, &HEADER, &message) {
+                    Ok(opened) => {
+                        assert_eq!(opened, Opened { tag, place: 1 + field.len(), length });
+                        assert_eq!(wrapped(&KEY, &HEADER, tag, &data), Ok(message));
+                        read.push(field);
+                    }
+                    Err(refusal) => assert_eq!(refusal, Refusal::Shape, "{field:02x?}"),
+                }
+            }
+            let short = (0x00..=0x7f).map(|l| vec![l]);
+            let long = (0x80..=0xff).map(|l| vec![0x81, l]);
+            assert_eq!(read, short.chain(long).collect::<Vec<_>>());
+        }
+    }
+
+    /// 81 as a length of one byte: its first data byte is read as the length, and fits where that is 80.
+    #[test]
+    fn the_byte_81_is_no_length() {
+        for first in 0..=255 {
+            let message = coded(&KEY, &HEADER, CLEAR, &[0x81], &[&[first], &[0x5a; 128][..]].concat());
+            let wanted = if first == 0x80 { Ok(Opened { tag: CLEAR, place: 3, length: 128 }) } else { Err(Refusal::Shape) };
+            assert_eq!(open(&KEY, &HEADER, &message), wanted);
+        }
+    }
+
+    /// Of every length: a byte less, one more, and as many more as a size of one byte would not show.
+    #[test]
+    fn nothing_lacks_and_nothing_follows() {
+        for length in 0..=255 {
+            let message = wrapped(&KEY, &HEADER, CLEAR, &vec![0x5a; length]).unwrap();
+            assert_eq!(shape(&message[..message.len() - 1]), Err(Refusal::Shape));
+            for more in [1, 2, 128, 256, 65536] {
+                assert_eq!(shape(&[&message[..], &vec![0; more]].concat()), Err(Refusal::Shape));
+            }
+        }
+    }
+
+    /// The rule before Wish 1.
+    fn old_shape(message: &[u8]) -> Result<Opened, Refusal> {
+        let [tag, length, ..] = *message else { return Err(Refusal::Shape) };
+        let length = usize::from(length);
+        let good = known(tag) && length <= 127 && message.len() == length + 8 && message[2 + length..4 + length] == [0x8e, 0x04];
+        if good {
+            Ok(Opened { tag, place: 2, length })
+        } else {
+            Err(Refusal::Shape)
+        }
+    }
+
+    /// Messages of a size, with each first byte of a length and some second ones; 8e 04 stand all over, at the end too.
+    fn of_size(size: usize) -> Vec<Vec<u8>> {
+        let mut messages = vec![];
+        for tag in [ENCIPHERED, CLEAR, 0x86] {
+            for length in 0..=255 {
+                for second in [0x00, 0x08, 0x7f, 0x80, size.saturating_sub(9) as u8, 0xff] {
+                    let mut message: Vec<u8> = [0x8e, 0x04].into_iter().cycle().skip(size % 2).take(size).collect();
+                    [tag, length, second].into_iter().zip(&mut message).for_each(|(byte, place)| *place = byte);
+                    messages.push(message);
+                }
+            }
+        }
+        messages
+    }
+
+    /// Up to 135 bytes; none of 136 is good, and with 137 the two-byte form begins.
+    #[test]
+    fn short_messages_are_read_as_before() {
+        let mut random = Random::new(0);
+        let mut good = 0;
+        for size in 0..=136 {
+            for message in of_size(size) {
+                assert_eq!(shape(&message), old_shape(&message), "{message:02x?}");
+                good += usize::from(shape(&message).is_ok());
+            }
+            for _ in 0..200 {
+                let mut message = random.bytes(size);
+                if size >= 8 {
+                    message[0] = random.choose(&[ENCIPHERED, CLEAR]);
+                    message[1] = random.choose(&[(size - 8) as u8, LONG, message[1]]);
+                    message[2] = random.choose(&[(size - 8) as u8, size.saturating_sub(9) as u8, message[2]]);
+                    message[size - 6..size - 4].copy_from_slice(&[0x8e, 0x04]);
+                }
+                assert_eq!(shape(&message), old_shape(&message), "{message:02x?}");
+                good += usize::from(shape(&message).is_ok());
+            }
+        }
+        assert!(good > 128 * 50, "{good}");
+        for message in of_size(137) {
+            assert_eq!(shape(&message).is_ok(), known(message[0]) && message[1..3] == [0x81, 0x80]);
+        }
     }
 
     #[test]
@@ -145,9 +280,24 @@ mod tests {
         for place in [0, 1, 5, 6, 7, 13, 14, u64::MAX - 8, u64::MAX - 7, u64::MAX] {
             let mut buffer = [0xaa; 14];
             let fits = place <= 6;
-            assert_eq!(wrap(&[3; 32], &[0; 4], CLEAR, &[], &mut buffer, place).is_ok(), fits);
+            assert_eq!(wrap(&KEY, &HEADER, CLEAR, &[], &mut buffer, place).is_ok(), fits);
             let written = if fits { place as usize..place as usize + 8 } else { 0..0 };
             assert!((0..14).filter(|i| !written.contains(i)).all(|i| buffer[i] == 0xaa));
         }
+    }
+
+    /// A buffer that just holds a message, or lacks a byte for it.
+    #[test]
+    fn rooms() {
+        for (length, size) in [(0, 8), (127, 135), (128, 137), (255, 264)] {
+            let data = vec![0x5a; length];
+            let mut buffer = vec![0xaa; size + 1];
+            assert_eq!(wrap(&KEY, &HEADER, CLEAR, &data, &mut buffer, 2), Err(Refusal::Room));
+            assert_eq!(buffer, vec![0xaa; size + 1]);
+            assert_eq!(wrap(&KEY, &HEADER, CLEAR, &data, &mut buffer, 1), Ok(()));
+            assert_eq!(buffer[0], 0xaa);
+            assert_eq!(buffer[1..], wrapped(&KEY, &HEADER, CLEAR, &data).unwrap());
+        }
+        assert_eq!(wrap(&KEY, &HEADER, CLEAR, &[0; 256], &mut [], u64::MAX), Err(Refusal::Range));
     }
 }

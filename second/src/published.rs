@@ -292,9 +292,12 @@ fn p3_to_p7_pin_blocks() {
 fn p8_to_p10_shapes() {
     assert_eq!(shape(&octets("81008e0400000000")), Ok(Opened { tag: 0x81, place: 2, length: 0 }));
     assert_eq!(shape(&octets("81008e0500000000")), Err(Refusal::Shape));
-    let long = |length: u8| [&[0x87, length], &vec![0; length.into()][..], &[0x8e, 4, 0, 0, 0, 0]].concat();
-    assert_eq!(shape(&long(0x80)), Err(Refusal::Shape));
-    assert_eq!(shape(&long(0x7f)), Ok(Opened { tag: 0x87, place: 2, length: 127 }));
+    let long = |field: &[u8], length| [&[0x87], field, &vec![0; length][..], &[0x8e, 4, 0, 0, 0, 0]].concat();
+    assert_eq!(shape(&long(&[0x80], 128)), Err(Refusal::Shape));
+    assert_eq!(shape(&long(&[0x7f], 127)), Ok(Opened { tag: 0x87, place: 2, length: 127 }));
+    // Wish 1
+    assert_eq!(shape(&long(&[0x81, 0x80], 128)), Ok(Opened { tag: 0x87, place: 3, length: 128 }));
+    assert_eq!(shape(&long(&[0x81, 0x7f], 127)), Err(Refusal::Shape));
 }
 
 #[test]

@@ -3,6 +3,8 @@
 use std::io::{self, Read};
 
 use crate::card::{PendingMark, Phase, Record};
+use crate::forms::form_of;
+use crate::keys::script_key;
 use crate::octets::from_hex;
 use crate::refusal::{number_of, Refusal};
 use crate::trace::{Answered, Run, LONGEST};
@@ -19,19 +21,28 @@ pub enum Slip {
     SpoiltMended,
     /// The issuer's answer leaves the session counter as it was.
     SessionKept,
-    /// A line of more than 280 digits is read as a script of wrong shape.
+    /// A line of more than 538 digits is read as a script of wrong shape.
     LongLine,
+    /// A length of 127 that is written 81 7f is read.
+    ShortForm,
+    /// A byte of 80 and more is read as the length.
+    LongAsOne,
+    /// The size of a message is compared as one byte, so that 256 bytes may follow.
+    SizeAsByte,
     /// The end of what was read at once is taken for the end of a line.
     TornReads,
 }
 
-pub const SLIPS: [(&str, Slip); 7] = [
+pub const SLIPS: [(&str, Slip); 10] = [
     ("failure-lowered", Slip::FailureLowered),
     ("failures-dropped", Slip::FailuresDropped),
     ("mark-kept", Slip::MarkKept),
     ("spoilt-mended", Slip::SpoiltMended),
     ("session-kept", Slip::SessionKept),
     ("long-line", Slip::LongLine),
+    ("short-form", Slip::ShortForm),
+    ("long-as-one", Slip::LongAsOne),
+    ("size-as-byte", Slip::SizeAsByte),
     ("torn-reads", Slip::TornReads),
 ];
 
@@ -53,11 +64,32 @@ impl Slipping {
         let first = from_hex(line).and_then(|frame| frame.first().copied());
         if let (Some(before), Some(first)) = (before, first) {
             self.slip(&before, first, number_of(&answer));
+            if answer == Err(Refusal::Shape) {
+                return self.reshaped(before, line);
+            }
         }
         if self.slip == Slip::LongLine && line.len() > LONGEST && self.run.record.is_some() {
             return Err(Refusal::Shape);
         }
         answer
+    }
+
+    /// The answer to a script whose shape is wrong, if it is not wrong for this slip. No command has a length of 127 and more.
+    fn reshaped(&mut self, before: Record, line: &[u8]) -> Answered {
+        let frame = from_hex(line).expect("a script");
+        let header = std::array::from_fn(|i| frame[1 + i]);
+        let form = form_of(&script_key(&before.smi, &before.cryptogram), &header, &frame[5..]);
+        match self.slip {
+            Slip::ShortForm if form.is_some() && frame[6..8] == [0x81, 0x7f] => Err(Refusal::Command),
+            Slip::LongAsOne if form.is_some_and(|form| form.before.is_empty()) => Err(Refusal::Command),
+            Slip::SizeAsByte if frame.len() > 256 => {
+                let mut run = Run { record: Some(before) };
+                let accepted = run.answer(&line[..line.len() - 512]).map_err(|_| Refusal::Shape)?;
+                self.run = run;
+                Ok(accepted)
+            }
+            _ => Err(Refusal::Shape),
+        }
     }
 
     fn slip(&mut self, before: &Record, first: u8, number: u8) {

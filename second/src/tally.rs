@@ -4,8 +4,11 @@ use std::collections::{BTreeMap, BTreeSet};
 use std::fmt::Write;
 
 use crate::card::{PendingMark, Phase, Record};
-use crate::message::{shape, Command};
-use crate::octets::{digit, from_hex};
+use crate::cryptogram::arpc;
+use crate::forms::form_of;
+use crate::keys::{script_key, session_key};
+use crate::message::{code_matches, open, shape, Command, Header, Opened};
+use crate::octets::{digit, from_hex, Key};
 use crate::pin::Pin;
 use crate::refusal::{number_of, Refusal};
 use crate::trace::{Answered, Run, LAST_FRAME, LONGEST};
@@ -46,6 +49,7 @@ const CAUSES: &[&str] = &[
     "02 0 session counter reset",
     "02 0 spoilt",
     "02 1 length",
+    "02 1 right answer and 256 bytes",
     "02 11 code differs",
     "02 6 after an AAC",
     "02 6 before a record",
@@ -66,9 +70,29 @@ const CAUSES: &[&str] = &[
     "03 0 in an ARQC transaction",
     "03 0 in a spoilt transaction",
     "03 1 header",
+    "03 4 length as 80",
+    "03 4 length as 80 00 to 80 ff",
+    "03 4 length as 81",
+    "03 4 length as 81 00 to 81 7f",
+    "03 4 length as 81 7f",
+    "03 4 length as 82 00 00 to 82 00 ff",
+    "03 4 length as 82 00 to 82 ff",
+    "03 4 length as 82 to ff",
+    "03 4 listed but for length as 80 00 to 80 ff",
+    "03 4 listed but for length as 81 00 to 81 7f",
+    "03 4 listed but for length as 82 00 00 to 82 00 ff",
+    "03 4 listed but for length as 82 00 to 82 ff",
+    "03 4 right message and 256 bytes",
     "03 4 shape",
+    "03 5 127 data bytes, good code",
+    "03 5 128 data bytes, good code",
+    "03 5 255 data bytes, good code",
     "03 5 command",
-    "03 5 longest message",
+    "03 5 length of one byte, good code",
+    "03 5 length of one byte, wrong code",
+    "03 5 length of two bytes, good code",
+    "03 5 length of two bytes, wrong code",
+    "03 5 listed but for 128 data bytes more, good code",
     "03 6 before a record",
     "03 6 none open",
     "03 7 failure counter",
@@ -80,6 +104,7 @@ const CAUSES: &[&str] = &[
     "04 0 new PIN and mark",
     "04 0 nothing pending",
     "04 0 sets the mark",
+    "04 1 256 bytes after",
     "04 1 bytes after, open",
     "04 10 nothing pending",
     "04 10 pending dropped",
@@ -93,12 +118,14 @@ const CAUSES: &[&str] = &[
     "05 0 none open",
     "05 0 pending dropped",
     "05 0 spoilt",
+    "05 1 256 bytes after",
     "05 1 bytes after, none open",
     "05 1 bytes after, open",
     "05 6 before a record",
     "06 0 AAC",
     "06 0 ARQC",
     "06 0 spoilt",
+    "06 1 256 bytes after",
     "06 1 bytes after, open",
     "06 6 before a record",
     "06 6 none open",
@@ -107,17 +134,22 @@ const CAUSES: &[&str] = &[
     "13 alone: empty",
     "13 alone: first byte above 06",
     "13 alone: high byte",
-    "13 alone: more than 280 digits",
+    "13 alone: more than 538 digits",
     "13 alone: odd count",
     "13 alone: other sign",
     "13 alone: NUL",
     "13 alone: blank",
     "13 before a record",
     "line of 279 signs",
-    "line of 280 signs",
+    "line of 280 signs, read",
     "line of 281 signs",
-    "line of 282 signs",
+    "line of 282 signs, read",
     "line of 283 signs",
+    "line of 537 signs",
+    "line of 538 signs, read",
+    "line of 539 signs",
+    "line of 540 signs",
+    "line of 541 signs",
     "torn last line",
 ];
 
@@ -155,10 +187,11 @@ impl Tally {
         let number = number_of(&answer);
         self.lines += 1;
         *self.numbers.entry((row(line), number)).or_default() += 1;
-        if (279..=283).contains(&line.len()) {
-            self.cause(format!("line of {} signs", line.len()));
+        let read = number != Refusal::Line.number();
+        if (279..=283).contains(&line.len()) || (537..=541).contains(&line.len()) {
+            self.cause(format!("line of {} signs{}", line.len(), if read { ", read" } else { "" }));
         }
-        if number == Refusal::Line.number() {
+        if !read {
             self.count_unreadable(line, before.record.is_none());
             return;
         }
@@ -209,15 +242,17 @@ impl Tally {
             (1, 6) => text("open already"),
             (1, 7) if record.transaction_counter == u16::MAX => text("transaction counter"),
             (1, 7) => text("session counter"),
-            (1 | 2, 1) => text("length"),
+            (1, 1) => text("length"),
+            (2, 1) => causes_of_answer_length(record, frame),
             (2, 0) => causes_of_answer(record, self.last == (2, 0)),
             (2, 6) if open => text("after an AAC"),
             (2, 11) => text("code differs"),
             (3, 0) => self.causes_of_script(record, frame, phase),
             (3, 6) => text("none open"),
-            (3, _) => self.causes_of_bad_script(frame, number),
+            (3, _) => self.causes_of_bad_script(record, frame, number),
             (4, 0) => causes_of_close(record),
             (4, 10) => text(if pending(record) { "pending dropped" } else { "nothing pending" }),
+            (4..=6, 1) if frame.len() == 257 => text("256 bytes after"),
             (4..=6, 1) => text(if open { "bytes after, open" } else { "bytes after, none open" }),
             (5, 0) => self.causes_of_withdraw(record),
             (6, 0) if record.spoilt => vec![phase.to_string(), "spoilt".to_string()],
@@ -248,7 +283,7 @@ impl Tally {
         causes
     }
 
-    fn causes_of_bad_script(&self, frame: &[u8], number: u8) -> Vec<String> {
+    fn causes_of_bad_script(&self, record: &Record, frame: &[u8], number: u8) -> Vec<String> {
         let cause = match number {
             1 => "header",
             4 => "shape",
@@ -258,8 +293,10 @@ impl Tally {
             _ => "PIN block",
         };
         let mut causes = vec![cause.to_string()];
-        if number == 5 && frame.len() == LONGEST / 2 {
-            causes.push("longest message".to_string());
+        match number {
+            4 => causes.extend(causes_of_shape(record, frame)),
+            5 => causes.extend(causes_of_length(record, frame)),
+            _ => {}
         }
         let failures = self.run.record.as_ref().map(|after| after.counters.failure);
         if number == 8 && failures == Some(u16::MAX) {
@@ -342,7 +379,7 @@ fn faults(line: &[u8]) -> BTreeSet<&'static str> {
         faults.insert("odd count");
     }
     if line.len() > LONGEST {
-        faults.insert("more than 280 digits");
+        faults.insert("more than 538 digits");
     }
     let first = line.get(..2).and_then(from_hex);
     if first.is_some_and(|first| first[0] > LAST_FRAME) {
@@ -384,6 +421,62 @@ fn personalise_fault(frame: &[u8]) -> &'static str {
 fn command_of(frame: &[u8]) -> Option<Command> {
     let header = frame.get(1..5)?.try_into().ok()?;
     Command::of(&header, &shape(&frame[5..]).ok()?).ok()
+}
+
+/// The SMI key for a script, its header and its message.
+fn taken_apart<'a>(record: &Record, frame: &'a [u8]) -> (Key, Header, &'a [u8]) {
+    let header = std::array::from_fn(|i| frame[1 + i]);
+    (script_key(&record.smi, &record.cryptogram), header, &frame[5..])
+}
+
+/// What alone is wrong with a shape: the form of the length, or 256 bytes after a message.
+fn causes_of_shape(record: &Record, frame: &[u8]) -> Vec<String> {
+    let (key, header, message) = taken_apart(record, frame);
+    let mut causes = vec![];
+    if let Some(form) = form_of(&key, &header, message) {
+        let place = 2 + form.before.len();
+        let length = message.len() - 6 - place;
+        causes.push(format!("length as {}", form.name));
+        if message[1..3] == [0x81, 0x7f] {
+            causes.push("length as 81 7f".to_string());
+        }
+        if Command::of(&header, &Opened { tag: message[0], place, length }).is_ok() {
+            causes.push(format!("listed but for length as {}", form.name));
+        }
+    }
+    if message.len() > 256 && open(&key, &header, &message[..message.len() - 256]).is_ok() {
+        causes.push("right message and 256 bytes".to_string());
+    }
+    causes
+}
+
+/// What the length of a message shows that has a good shape and is no command's.
+fn causes_of_length(record: &Record, frame: &[u8]) -> Vec<String> {
+    let (key, header, message) = taken_apart(record, frame);
+    let opened = shape(message).expect("a good shape");
+    let form = if opened.place == 2 { "one byte" } else { "two bytes" };
+    let code = if code_matches(&key, &header, message) { "good code" } else { "wrong code" };
+    let mut causes = vec![format!("length of {form}, {code}")];
+    if [127, 128, 255].contains(&opened.length) {
+        causes.push(format!("{} data bytes, {code}", opened.length));
+    }
+    let less = opened.length.checked_sub(128).map(|length| Opened { length, ..opened });
+    if less.is_some_and(|less| Command::of(&header, &less).is_ok()) {
+        causes.push(format!("listed but for 128 data bytes more, {code}"));
+    }
+    causes
+}
+
+fn causes_of_answer_length(record: &Record, frame: &[u8]) -> Vec<String> {
+    let mut causes = vec!["length".to_string()];
+    if frame.len() == 1 + 12 + 256 {
+        let csu = std::array::from_fn(|i| frame[9 + i]);
+        let right = arpc(&session_key(&record.ac, record.transaction_counter), &record.cryptogram, &csu);
+        if frame[1..9] == right {
+            causes.push("right answer and 256 bytes".to_string());
+        }
+    }
+    causes
 }
 
 fn pending(record: &Record) -> bool {

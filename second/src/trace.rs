@@ -8,7 +8,7 @@ use crate::pin::{self, Counters};
 use crate::refusal::{number_of, Refusal};
 
 /// The longest line that is read, in digits, and the last frame.
-pub const LONGEST: usize = 280;
+pub const LONGEST: usize = 538;
 pub const LAST_FRAME: u8 = 6;
 
 /// What a line is answered: the bytes of an accepted frame, or the refusal.
@@ -164,6 +164,8 @@ pub fn answers(trace: &[u8]) -> Vec<u8> {
 #[cfg(test)]
 mod tests {
     use super::*;
+    use crate::message::{wrapped, CLEAR, LARGEST};
+    use crate::random::Random;
 
     fn text(trace: &[u8]) -> String {
         String::from_utf8(answers(trace)).unwrap()
@@ -198,16 +200,53 @@ mod tests {
         for high in 0x80..=0xff {
             assert_eq!(text(&[b'0', b'5', high, high, b'\n']), "0d\n");
         }
-        for (length, answer) in [(278, "06\n"), (279, "0d\n"), (280, "06\n"), (281, "0d\n"), (282, "0d\n"), (100_000, "0d\n")] {
+        for length in (278..=284).chain(536..=541).chain([1076, 100_000]) {
             let line = format!("03{}\n", "0".repeat(length - 2));
-            assert_eq!(text(line.as_bytes()), answer, "{length}");
+            let read = length % 2 == 0 && length <= 538;
+            assert_eq!(text(line.as_bytes()), if read { "06\n" } else { "0d\n" }, "{length}");
+        }
+    }
+
+    #[test]
+    fn the_longest_script_is_the_longest_line() {
+        let message = wrapped(&[0; 32], &[0; 4], CLEAR, &[0; LARGEST]).unwrap();
+        assert_eq!((message.len(), 2 * (1 + 4 + message.len())), (264, LONGEST));
+    }
+
+    /// The rule before Wish 1.
+    fn old_read_frame(line: &[u8]) -> Result<Vec<u8>, Refusal> {
+        if line.is_empty() || line.len() > 280 {
+            return Err(Refusal::Line);
+        }
+        let frame = from_hex(line).ok_or(Refusal::Line)?;
+        if frame[0] > 6 {
+            return Err(Refusal::Line);
+        }
+        Ok(frame)
+    }
+
+    /// Up to 280 signs. What a frame is answered depends on nothing else that has changed but the shape of a message, and one of such a line has
+    /// up to 135 bytes (`message::tests`).
+    #[test]
+    fn short_lines_are_read_as_before() {
+        let mut random = Random::new(0);
+        for length in 0..=280 {
+            for first in b'0'..=b'8' {
+                let mut line: Vec<u8> = (0..length).map(|_| random.choose(b"0123456789abcdef")).collect();
+                [b'0', first].into_iter().zip(&mut line).for_each(|(sign, place)| *place = sign);
+                assert_eq!(read_frame(&line), old_read_frame(&line));
+                if length > 0 {
+                    line[random.below(length)] = random.byte();
+                    assert_eq!(read_frame(&line), old_read_frame(&line));
+                }
+            }
         }
     }
 
     #[test]
     fn before_a_record() {
         for first in 1..=6 {
-            for rest in [0, 1, 8, 12, 65, 139] {
+            for rest in [0, 1, 8, 12, 65, 139, 140, 268] {
                 let line = format!("{first:02x}{}\n", "00".repeat(rest));
                 assert_eq!(text(line.as_bytes()), "06\n");
             }
@@ -237,6 +276,10 @@ mod tests {
         assert_eq!(answers[2..], ["01", "01", "01", "01", "00"]);
         let spoilt = text(format!("{card}{open}030000\n04\n04\n").as_bytes());
         assert!(spoilt.ends_with("\n01\n0a\n06\n"));
+        // lengths that are right but for 256
+        let after = "00".repeat(256);
+        let longer = text(format!("{card}{open}04{after}\n06{after}\n05{after}\n02{after}{}\n04\n", "00".repeat(12)).as_bytes());
+        assert!(longer.ends_with("\n01\n01\n01\n01\n00\n"));
     }
 
     #[test]

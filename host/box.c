@@ -11,8 +11,8 @@
 #include <stdio.h>
 #include <string.h>
 
-/* The longest message: 127 data bytes and 8 more. */
-enum { MESSAGE = 135 };
+/* The longest message: 255 data bytes and 9 more. */
+enum { MESSAGE = 264 };
 
 static const char help[] =
     "box: keys, codes and scripts of the Mir scheme\n"
@@ -163,7 +163,7 @@ static int script(const char *key, uint8_t instruction, uint8_t p2, uint8_t tag,
     r = box_wrap(smi.at, smi.length, header, sizeof header, tag, data, length, message, sizeof message, 0);
     if (r != 0) return refused(r);
     print("header", header, sizeof header);
-    print("message", message, length + 8);
+    print("message", message, length + (length < 128 ? 8 : 9));
     return 0;
 }
 

@@ -84,12 +84,14 @@ uint8_t box_cryptogram(const uint8_t *key, size_t key_length, uint8_t kind, uint
 uint8_t box_arpc(const uint8_t *key, size_t key_length, const uint8_t *cryptogram, size_t cryptogram_length, const uint8_t *csu, size_t csu_length, uint8_t *out, size_t out_length);
 
 /* A script message under the SMI session key of 32 bytes and the command's header of 4 (class, instruction, two parameters): tag 0x87 for
- * enciphered data or 0x81 for clear, up to 127 data bytes as given. It is written into the buffer from the place on, data_length + 8
- * bytes of it; every other byte of the buffer stays. Refusals 1, 3. */
+ * enciphered data or 0x81 for clear, up to 255 data bytes as given. It is written into the buffer from the place on; every other byte of
+ * the buffer stays. Its size is data_length + 8 up to 127 data bytes, whose length takes one byte, and data_length + 9 from 128 on, whose
+ * length takes two, 81 first: 264 at most. The function does not return it. Refusals 1 (more than 255 data bytes too), 3. */
 uint8_t box_wrap(const uint8_t *key, size_t key_length, const uint8_t *header, size_t header_length, uint8_t tag, const uint8_t *data, size_t data_length, uint8_t *buffer, size_t buffer_length, size_t place);
 
-/* A script message opened under the SMI session key of 32 bytes and the header of 4. found: 3, the tag, the place of the data in the message
- * and their length. Refusals 1, 4, 8. */
+/* A script message, with nothing after it, opened under the SMI session key of 32 bytes and the header of 4. found: 3, the tag, the place of the
+ * data in the message (2, or 3 where there are 128 and more) and their length (0 to 255), one byte each. A length in any other form than
+ * that of box_wrap is a wrong shape. Refusals 1, 4, 8. */
 uint8_t box_open(const uint8_t *key, size_t key_length, const uint8_t *header, size_t header_length, const uint8_t *message, size_t message_length, uint8_t *found, size_t found_length);
 
 #ifdef __cplusplus

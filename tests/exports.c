@@ -177,23 +177,33 @@ static void of_cryptogram(void) {
 
 static void of_message(void) {
     static const uint8_t tags[4] = {0x87, 0x81, 0x87, 0x82};
-    struct lent k = lend(length_near(32)), h = lend(length_near(4)), d = lend(any() % 3 ? any() % 128 : any() % 200), b = lend(any() % 400), f = lend(length_near(3));
+    static const size_t edges[11] = {0, 1, 126, 127, 128, 129, 254, 255, 256, 257, 300};
+    struct lent k = lend(length_near(32)), h = lend(length_near(4)), d = lend(any() % 3 ? any() % 256 : edges[any() % 11]), f = lend(length_near(3)), b;
     uint8_t tag = tags[any() % 4], r, s = 1, wanted = 0;
-    size_t place = any() % 6 == 0 ? (size_t)0 - any() % 3 : any() % (b.length + 3), size = d.length + 8;
+    size_t from = d.length < 128 ? 2 : 3, size = from + d.length + 6, place = any() % 40;
+    b = lend(any() % 3 ? place + size + any() % 40 : any() % 600);
+    switch (any() % 5) {
+    case 0: place = (size_t)0 - any() % 3; break;
+    case 1: place = any() % (b.length + 3); break;
+    case 2: place = b.length < size ? 0 : b.length - size + any() % 2; break;
+    default: break;
+    }
     if (b.length < place || b.length - place < size) wanted = 3;
-    if (k.length != 32 || h.length != 4 || d.length > 127 || tag == 0x82) wanted = 1;
+    if (k.length != 32 || h.length != 4 || d.length > 255 || tag == 0x82) wanted = 1;
     r = box_wrap(k.at, k.length, h.at, h.length, tag, d.at, d.length, b.at, b.length, place);
     expect(r, wanted, "box_wrap");
     if (r == 0) {
         uint8_t *m = b.at + place;
         s = box_open(k.at, k.length, h.at, h.length, m, size, f.at, f.length);
         expect(s, f.length == 3 ? 0 : 1, "box_open");
-        if (s == 0 && (f.at[0] != tag || f.at[1] != 2 || f.at[2] != d.length || (d.length > 0 && memcmp(m + f.at[1], d.at, d.length) != 0))) fail("box_open: found");
-        /* one bit changed: the code differs, or the shape is wrong */
+        if (s == 0 && (f.at[0] != tag || f.at[1] != from || f.at[2] != d.length || (d.length > 0 && memcmp(m + f.at[1], d.at, d.length) != 0))) fail("box_open: found");
         {
             struct lent g = lend(length_near(3));
-            size_t at = any() % size;
-            int shape = at < 2 || at == size - 6 || at == size - 5;
+            size_t at = any() % 3 ? any() % size : any() % from;
+            int shape = at < from || at == size - 6 || at == size - 5;
+            expect(box_open(k.at, k.length, h.at, h.length, m, any() % size, g.at, g.length), g.length != 3 ? 1 : 4, "box_open of a part");
+            if (b.length - place > size) expect(box_open(k.at, k.length, h.at, h.length, m, b.length - place, g.at, g.length), g.length != 3 ? 1 : 4, "box_open of more");
+            /* one bit changed: the code differs, or the shape is wrong */
             m[at] ^= (uint8_t)(1u << any() % 8);
             expect(box_open(k.at, k.length, h.at, h.length, m, size, g.at, g.length), g.length != 3 ? 1 : shape ? 4 : 8, "box_open of a changed message");
             back(g, 0, 0, "box_open");
@@ -212,26 +222,82 @@ static void of_message(void) {
 /* Random bytes, and messages whose tag, length, end or code is off, to the opener. */
 static void of_opening(void) {
     static const uint8_t firsts[6] = {0x81, 0x87, 0x81, 0x87, 0x80, 0x8e};
-    static const uint8_t lengths[5] = {0x00, 0x08, 0x7f, 0x80, 0xff};
+    static const uint8_t lengths[7] = {0x00, 0x08, 0x7f, 0x80, 0x81, 0x82, 0xff};
     struct lent k = lend(32), h = lend(4), m = lend(any() % 300), f = lend(length_near(3));
-    size_t L;
+    size_t n = m.length, place, L;
     uint8_t wanted = 4;
-    if (m.length > 0 && any() % 4 != 0) m.at[0] = firsts[any() % 6];
-    if (m.length > 1 && any() % 4 != 0) m.at[1] = any() % 2 && m.length >= 8 ? (uint8_t)(m.length - 8) : lengths[any() % 5];
-    L = m.length > 1 ? m.at[1] : 0;
-    if (m.length > L + 3 && any() % 4 != 0) {
-        m.at[L + 2] = 0x8e;
-        m.at[L + 3] = any() % 4 == 0 ? 0x05 : 0x04;
+    if (n > 0 && any() % 4 != 0) m.at[0] = firsts[any() % 6];
+    if (n >= 9 && any() % 4 != 0) {
+        if (any() % 2) {
+            m.at[1] = any() % 2 ? (uint8_t)(n - 8) : lengths[any() % 7];
+        } else {
+            m.at[1] = 0x81;
+            m.at[2] = any() % 2 ? (uint8_t)(n - 9) : lengths[any() % 7];
+        }
+    }
+    place = n > 2 && m.at[1] == 0x81 ? 3 : 2;
+    L = n >= place ? m.at[place - 1] : 0;
+    if (n > place + L + 1 && any() % 4 != 0) {
+        m.at[place + L] = 0x8e;
+        m.at[place + L + 1] = any() % 4 == 0 ? 0x05 : 0x04;
     }
     keep(&m);
     /* a good shape with a code of random bytes is 8 */
-    if (m.length == L + 8 && L <= 127 && (m.at[0] == 0x81 || m.at[0] == 0x87) && m.at[L + 2] == 0x8e && m.at[L + 3] == 0x04) wanted = 8;
+    if (n == place + L + 6 && (place == 2 ? L <= 127 : L >= 128) && (m.at[0] == 0x81 || m.at[0] == 0x87) && m.at[n - 6] == 0x8e && m.at[n - 5] == 0x04) wanted = 8;
     if (f.length != 3) wanted = 1;
     expect(box_open(k.at, k.length, h.at, h.length, m.at, m.length, f.at, f.length), wanted, "box_open of random bytes");
     back(k, 0, 0, "box_open");
     back(h, 0, 0, "box_open");
     back(m, 0, 0, "box_open");
     back(f, 0, 0, "box_open");
+}
+
+/* Writes the code at a message's end: that of the header, 80 and three 00, the message before its code, 80, and zeros, 272 bytes. */
+static void seal(struct lent k, struct lent h, struct lent m) {
+    uint8_t string[272] = {0};
+    memcpy(string, h.at, 4);
+    string[4] = 0x80;
+    memcpy(string + 8, m.at, m.length - 4);
+    string[8 + m.length - 4] = 0x80;
+    expect(box_code(k.at, 32, string, sizeof string, m.at + m.length - 4, 4), 0, "box_code");
+}
+
+/* Every length in fields of one, two and three bytes, with a size, an end and a code that fit: one form of each is read, and wrapping writes that
+ * one. With 256 bytes after it, which a size of one byte would not show, it is not read. */
+static void of_forms(void) {
+    static const uint8_t before[5][2] = {{0}, {0x81}, {0x80}, {0x82}, {0x82, 0x00}};
+    static const size_t sizes[5] = {0, 1, 1, 1, 2};
+    size_t L, form;
+    for (L = 0; L <= 255; L++)
+        for (form = 0; form < 5; form++) {
+            size_t place = 2 + sizes[form];
+            struct lent k = lend(32), h = lend(4), m = lend(place + L + 6), b = lend(m.length), w = lend(m.length + 256), f = lend(3);
+            uint8_t tag = any() % 2 ? 0x87 : 0x81, wanted = form == (L < 128 ? 0 : 1) ? 0 : 4;
+            m.at[0] = tag;
+            memcpy(m.at + 1, before[form], sizes[form]);
+            m.at[place - 1] = (uint8_t)L;
+            /* 81 80 would be the length 128 */
+            if (form == 0 && L == 0x81) m.at[2] = 0x7f;
+            m.at[place + L] = 0x8e;
+            m.at[place + L + 1] = 0x04;
+            seal(k, h, m);
+            keep(&m);
+            memcpy(w.at, m.at, m.length);
+            keep(&w);
+            expect(box_open(k.at, 32, h.at, 4, w.at, w.length, f.at, 3), 4, "box_open of 256 bytes more");
+            expect(box_open(k.at, 32, h.at, 4, m.at, m.length, f.at, 3), wanted, "box_open of a form");
+            if (wanted == 0) {
+                if (f.at[0] != tag || f.at[1] != place || f.at[2] != L) fail("box_open of a form: found");
+                expect(box_wrap(k.at, 32, h.at, 4, tag, m.at + place, L, b.at, b.length, 0), 0, "box_wrap of what was opened");
+                if (memcmp(b.at, m.at, m.length) != 0) fail("box_wrap of what was opened");
+            }
+            back(k, 0, 0, "box_open of a form");
+            back(h, 0, 0, "box_open of a form");
+            back(m, 0, 0, "box_open of a form");
+            back(w, 0, 0, "box_open of 256 bytes more");
+            back(b, 0, wanted == 0 ? b.length : 0, "box_wrap of what was opened");
+            back(f, 0, wanted == 0 ? 3 : 0, "box_open of a form");
+        }
 }
 
 /* PIN blocks with one half-byte of any value: read exactly when the format is right, and written back to the same bytes. */
@@ -307,6 +373,7 @@ static void of_values(void) {
 
 int main(void) {
     int i;
+    of_forms();
     for (i = 0; i < ROUNDS; i++) {
         of_two(box_encipher, 8, 0, 8, "box_encipher");
         of_two(box_decipher, 8, 0, 8, "box_decipher");

@@ -25,11 +25,12 @@ static const char help[] =
     "  box change-pin SK-SMI SK-SMC PIN                   the script that sets a PIN: its header, then its message\n"
     "  box block SK-SMI                                   the script that blocks the card\n"
     "  box unblock SK-SMI                                 the script that unblocks it\n"
+    "  box wrap SK-SMI HEADER TAG DATA                    the message of any other command: tag 87 or 81, up to 255 bytes of data\n"
     "  box open SK-SMI HEADER MESSAGE                     a script message opened: its tag, then its data\n"
     "  box arpc SK-AC CRYPTOGRAM CSU                      the issuer's answer to a cryptogram\n"
     "  box idn IDN-KEY COUNTER LENGTH                     an ICC dynamic number of 2 to 8 bytes\n"
     "\n"
-    "Keys (64 digits), headers, cryptograms, messages and CSUs are hexadecimal; card numbers, PINs, sequence numbers and\n"
+    "Keys (64 digits), headers, tags, data, cryptograms, messages and CSUs are hexadecimal; card numbers, PINs, sequence numbers and\n"
     "lengths are decimal; a transaction counter is four hexadecimal digits.\n";
 
 static const char *in_words(unsigned number) {
@@ -151,20 +152,33 @@ static int session_keys(char **word) {
     return 0;
 }
 
-/* Prints the header and the message that a command's data are wrapped in. */
+/* Prints the message that data are wrapped in; its size is that of the data and 8, or 9 where their length takes two bytes. */
+static int wrapped(const struct bytes *smi, const uint8_t *header, size_t header_length, uint8_t tag, const uint8_t *data, size_t length) {
+    uint8_t message[MESSAGE], r;
+    r = box_wrap(smi->at, smi->length, header, header_length, tag, data, length, message, sizeof message, 0);
+    if (r != 0) return refused(r);
+    print("header", header, header_length);
+    print("message", message, length + (length < 128 ? 8 : 9));
+    return 0;
+}
+
+/* A command of the card. */
 static int script(const char *key, uint8_t instruction, uint8_t p2, uint8_t tag, const uint8_t *data, size_t length) {
     struct bytes smi;
-    uint8_t header[4], message[MESSAGE], r;
+    uint8_t header[4];
     header[0] = 0x84;
     header[1] = instruction;
     header[2] = 0x00;
     header[3] = p2;
     if (hexadecimal(key, &smi)) return 1;
-    r = box_wrap(smi.at, smi.length, header, sizeof header, tag, data, length, message, sizeof message, 0);
-    if (r != 0) return refused(r);
-    print("header", header, sizeof header);
-    print("message", message, length + (length < 128 ? 8 : 9));
-    return 0;
+    return wrapped(&smi, header, sizeof header, tag, data, length);
+}
+
+static int wrap(char **word) {
+    struct bytes smi, header, tag, data;
+    if (hexadecimal(word[0], &smi) || hexadecimal(word[1], &header) || hexadecimal(word[2], &tag) || hexadecimal(word[3], &data)) return 1;
+    if (tag.length != 1) return refused(1);
+    return wrapped(&smi, header.at, header.length, tag.at[0], data.at, data.length);
 }
 
 static int change_pin(char **word) {
@@ -225,6 +239,7 @@ static int run(int argc, char **argv) {
     if (!strcmp(command, "change-pin") && words == 3) return change_pin(word);
     if (!strcmp(command, "block") && words == 1) return script(word[0], 0x1e, 0x00, 0x81, NULL, 0);
     if (!strcmp(command, "unblock") && words == 1) return script(word[0], 0x18, 0x00, 0x81, NULL, 0);
+    if (!strcmp(command, "wrap") && words == 4) return wrap(word);
     if (!strcmp(command, "open") && words == 3) return open_message(word);
     if (!strcmp(command, "arpc") && words == 3) return arpc(word);
     if (!strcmp(command, "idn") && words == 3) return idn(word);

@@ -25,7 +25,8 @@ static const char help[] =
     "  box change-pin SK-SMI SK-SMC PIN                   the script that sets a PIN: its header, then its message\n"
     "  box block SK-SMI                                   the script that blocks the card\n"
     "  box unblock SK-SMI                                 the script that unblocks it\n"
-    "  box wrap SK-SMI HEADER TAG DATA                    the message of any other command: tag 87 or 81, up to 255 bytes of data\n"
+    "  box wrap SK-SMI HEADER TAG DATA                    the script of any other command: its header, then its message;\n"
+    "                                                     tag 87 or 81, up to 255 bytes of data\n"
     "  box open SK-SMI HEADER MESSAGE                     a script message opened: its tag, then its data\n"
     "  box arpc SK-AC CRYPTOGRAM CSU                      the issuer's answer to a cryptogram\n"
     "  box idn IDN-KEY COUNTER LENGTH                     an ICC dynamic number of 2 to 8 bytes\n"
@@ -152,7 +153,7 @@ static int session_keys(char **word) {
     return 0;
 }
 
-/* Prints the message that data are wrapped in; its size is that of the data and 8, or 9 where their length takes two bytes. */
+/* Prints the header and the message that data are wrapped in; its size is that of the data and 8, or 9 where their length takes two bytes. */
 static int wrapped(const struct bytes *smi, const uint8_t *header, size_t header_length, uint8_t tag, const uint8_t *data, size_t length) {
     uint8_t message[MESSAGE], r;
     r = box_wrap(smi->at, smi->length, header, header_length, tag, data, length, message, sizeof message, 0);

@@ -227,13 +227,10 @@ static void of_opening(void) {
     size_t n = m.length, place, L;
     uint8_t wanted = 4;
     if (n > 0 && any() % 4 != 0) m.at[0] = firsts[any() % 6];
-    if (n >= 9 && any() % 4 != 0) {
-        if (any() % 2) {
-            m.at[1] = any() % 2 ? (uint8_t)(n - 8) : lengths[any() % 7];
-        } else {
-            m.at[1] = 0x81;
-            m.at[2] = any() % 2 ? (uint8_t)(n - 9) : lengths[any() % 7];
-        }
+    if (n > 1 && any() % 4 != 0) m.at[1] = any() % 2 && n >= 8 ? (uint8_t)(n - 8) : lengths[any() % 7];
+    if (n > 2 && any() % 2 != 0) {
+        m.at[1] = 0x81;
+        m.at[2] = any() % 2 && n >= 9 ? (uint8_t)(n - 9) : lengths[any() % 7];
     }
     place = n > 2 && m.at[1] == 0x81 ? 3 : 2;
     L = n >= place ? m.at[place - 1] : 0;

@@ -80,7 +80,7 @@ impl Slipping {
         let header = std::array::from_fn(|i| frame[1 + i]);
         let form = form_of(&script_key(&before.smi, &before.cryptogram), &header, &frame[5..]);
         match self.slip {
-            Slip::ShortForm if form.is_some() && frame[6..8] == [0x81, 0x7f] => Err(Refusal::Command),
+            Slip::ShortForm if form.is_some_and(|form| form.before == [0x81]) && frame[7] == 0x7f => Err(Refusal::Command),
             Slip::LongAsOne if form.is_some_and(|form| form.before.is_empty()) => Err(Refusal::Command),
             Slip::SizeAsByte if frame.len() > 256 => {
                 let mut run = Run { record: Some(before) };

@@ -437,7 +437,7 @@ fn causes_of_shape(record: &Record, frame: &[u8]) -> Vec<String> {
         let place = 2 + form.before.len();
         let length = message.len() - 6 - place;
         causes.push(format!("length as {}", form.name));
-        if message[1..3] == [0x81, 0x7f] {
+        if form.before == [0x81] && message[2] == 0x7f {
             causes.push("length as 81 7f".to_string());
         }
         if Command::of(&header, &Opened { tag: message[0], place, length }).is_ok() {

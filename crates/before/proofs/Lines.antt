@@ -2,17 +2,13 @@
 use mathlib.Core.Path.{_≡_, refl, sym, ap, ap₂, _∙_}
 use mathlib.Core.Bool.{Bool, true, false, _&&_, cond, and-eq-true-iff}
 use mathlib.Core.List.{List, [], _∷_, _++_}
-use Prim.Native.Nat.{ℕ, _+_, _*_, _≤_}
+use Prim.Native.Nat.{ℕ, _+_, _≤_}
 use native.Mathlib.Omega.{arith}
 use borrow.Author.Tests.{le-leb, leb-true, eqb-true}
 use lib.Dec.{leb, eqb}
 use lib.ListN.{length, getD, take, drop, length-drop}
-use Rattle.message.specs.Length.{largest}
-use Rattle.message.specs.Shape.{sizeOf}
-use Rattle.message.proofs.Examples.{largest-message}
 use Rattle.card.specs.declared.Card.{Card}
 use Rattle.card.specs.declared.Reply.{Reply}
-use Rattle.card.specs.Calls.{step, Script, scriptAs}
 use Rattle.trace.specs.declared.Held.{Held}
 use Rattle.trace.specs.Lines.{longest, lastFrame, lines, octetsOf, hexadecimal, readable, lineFor}
 use Rattle.trace.specs.Frames.{nothing, Answer, numbered, personalisedBy, starts, called, replied, calling, framed, answerTo}
@@ -21,11 +17,7 @@ use Rattle.trace.proofs.FrameLaws.{called-3}
 use Rattle.before.specs.Base as base
 use Rattle.before.specs.Base.{longest as longestBefore, readable as readableBefore, called as calledBefore, calling as callingBefore, framed as framedBefore, answerTo as answerBefore, answers as answersBefore, traced as tracedBefore}
 use Rattle.before.specs.Statement.{lineBefore, noneAbove, ReadsAsBefore}
-use Rattle.before.proofs.Messages.{shaped-as-before, opened-as-before, judged-as-before}
-
--- "the longest trace line 538 digits": a first byte, a header and the largest message
-pub longest-line : longest ≡ 2 * (1 + 4 + sizeOf largest)
-longest-line = ap (λ (k : ℕ). 2 * (1 + 4 + k)) (sym largest-message)
+use Rattle.before.proofs.Messages.{shaped-as-before, fits-as-before, opened-as-before, script-as-before}
 
 -- two digits an octet
 octets-half : (l : List ℕ) → length (octetsOf l) + length (octetsOf l) ≤ length l
@@ -40,11 +32,9 @@ module _ (s : List ℕ) (k : length s ≤ 139) where
   unfolding calledBefore
   same-called r f = go (eqb f 3) refl
     where
-      script : scriptAs r (base.judged r (take 4 s) (drop 4 s)) ≡ step r (Script (take 4 s) (drop 4 s))
-      script = ap (scriptAs r) (sym (judged-as-before (drop 4 s) (omega (arith, length-drop 4 s)) r (take 4 s)))
-
-      go : (b : Bool) → eqb f 3 ≡ b → called r f s ≡ cond b (scriptAs r (base.judged r (take 4 s) (drop 4 s))) (called r f s)
-      go true e = sym (called-3 r f s _ (eqb-true _ _ e) script)
+      go : (b : Bool) → eqb f 3 ≡ b → called r f s ≡ cond b (base.script r (take 4 s) (drop 4 s)) (called r f s)
+      go true e =
+          sym (called-3 r f s _ (eqb-true _ _ e) (sym (script-as-before (drop 4 s) (omega (arith, length-drop 4 s)) r (take 4 s))))
       go false e = refl
 
   same-framed : (h : Held) (f : ℕ) → framed h f s ≡ framedBefore h f s
@@ -79,7 +69,9 @@ unfolding traced tracedBefore
 reads-as-before =
     record {
       of-shape = shaped-as-before;
+      of-code = λ key header m l. fits-as-before m l key header;
       of-opening = λ key header m l. opened-as-before m l key header;
-      of-script = λ r header m l. judged-as-before m l r header;
+      of-script = λ r header m l. script-as-before m l r header;
+      of-line = λ h l k. same-line l k h;
       of-trace = λ text e. same-answers (lines text) e nothing;
     }

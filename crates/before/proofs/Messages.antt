@@ -14,29 +14,48 @@ use Rattle.pin.specs.Answers.{decipherPin}
 use Rattle.message.specs.declared.Opened.the-variants.{Data, Refused}
 use Rattle.message.specs.declared.command.Listed.{Listed}
 use Rattle.message.specs.declared.command.Listed.the-variants.{One, Unlisted}
-use Rattle.message.specs.Length.{largest, largestShort, lengthField, fieldSays, lengthOf, placeOf}
-use Rattle.message.specs.Shape.{tagFits, codeHead, body, bodySize, tagOf, dataOf, bodyOf, codeIn, shape}
+use Rattle.message.specs.Length.{largest, largestShort, lengthOf, placeOf}
+use Rattle.message.specs.Shape.{tagFits, codeHead, body, bodySize, sizeOf, tagOf, dataOf, bodyOf, codeIn, shape}
 use Rattle.message.specs.Code.{codeFor, message, given, codeFits}
 use Rattle.message.specs.Command.{commandOf}
-use Rattle.message.specs.Answers.{answer, shaped, openNumber, opened}
+use Rattle.message.specs.Answers.{answer, shaped, openNumber, opened, laid, wrapNumber, wrapped, Written}
 use Rattle.message.proofs.LengthLaws.{Form, short, long, form, Says, one, two, none, says, says-short, says-long, field-short, place-short, place-long}
 use Rattle.message.proofs.ShapeLaws.{shape-good}
 use Rattle.card.specs.declared.Card.{Card}
 use Rattle.card.specs.Record.{isOpen, sound}
 use Rattle.card.specs.Keys.{smiKey, smcKey}
-use Rattle.card.specs.Calls.{Verdict, strikes, first, input, shapeWrong, phaseWrong, counterFull, pinFormat, refuses, spoils, differs, takes, orderOf, formatFits, pinIn, forCommand, inOpen, judged}
-use Rattle.before.specs.Statement.{sizeBefore}
+use Rattle.card.specs.Calls.{Verdict, strikes, first, input, shapeWrong, phaseWrong, counterFull, pinFormat, refuses, spoils, differs, takes, orderOf, formatFits, pinIn, forCommand, inOpen, judged, scriptAs, step, Script}
+use Rattle.before.specs.Statement.{sizeBefore, WritesAsBefore}
 use Rattle.before.specs.Base as base
-use Rattle.before.specs.Base.{largest as largestBefore, lengthOf as lengthBefore, body as bodyBefore, dataOf as dataBefore, bodyOf as partBefore, codeIn as codeBefore, shape as shapeBefore, codeFits as fitsBefore, answer as answerBefore, shaped as shapedBefore, openNumber as numberBefore, opened as openedBefore, message as messageBefore, pinIn as pinBefore, inOpen as inOpenBefore, judged as judgedBefore}
+use Rattle.before.specs.Base.{largest as largestBefore, lengthOf as lengthBefore, body as bodyBefore, dataOf as dataBefore, bodyOf as partBefore, codeIn as codeBefore, shape as shapeBefore, codeFits as fitsBefore, answer as answerBefore, shaped as shapedBefore, openNumber as numberBefore, opened as openedBefore, message as messageBefore, wrapNumber as wrapBefore, wrapped as wrappedBefore, script as scriptBefore, pinIn as pinBefore, inOpen as inOpenBefore, judged as judgedBefore}
 
 -- the body of data that one byte counts
 body-short : (t : ℕ) (d : List ℕ) → length d ≤ 127 → body t d ≡ bodyBefore t d
 unfolding body bodyBefore largestShort
 body-short t d h = ap (λ (f : List ℕ). t ∷ f ++ d ++ codeHead) (field-short (length d) h)
 
-pub writes-as-before : (key header : List ℕ) (tag : ℕ) (d : List ℕ) → length d ≤ 127 → message key header tag d ≡ base.message key header tag d
+message-short : (key header : List ℕ) (tag : ℕ) (d : List ℕ) → length d ≤ 127 → message key header tag d ≡ messageBefore key header tag d
 unfolding message messageBefore
-writes-as-before key header tag d h = ap (λ (b : List ℕ). b ++ codeFor key header b) (body-short tag d h)
+message-short key header tag d h = ap (λ (b : List ℕ). b ++ codeFor key header b) (body-short tag d h)
+
+number-short : (key header : List ℕ) (tag n size place : ℕ) → n ≤ 127 → wrapNumber key header tag n size place ≡ wrapBefore key header tag n size place
+unfolding wrapNumber wrapBefore sizeOf bodySize largest largestBefore largestShort
+number-short key header tag n size place h =
+    let p = place-short n h in
+    let e : leb n 255 ≡ leb n 127 = le-leb n 255 (omega arith) ∙ sym (le-leb n 127 h) in
+    let k : placeOf n + n + 2 + 4 ≡ n + 8 = omega arith in
+    ap₂ (λ (x : Bool) (s : ℕ). cond (given key header && (tagFits tag && x)) (cond (leb (place + s) size) 0 3) 1) e k
+
+pub writes-as-before : WritesAsBefore
+unfolding wrapped wrappedBefore
+writes-as-before =
+    record {
+      of-wrapping =
+          λ key header tag d b place h.
+          ap₂ (λ (r : ℕ) (m : List ℕ). cond {A = Written} (eqb r 0) (record { code = 0; buffer = laid b place m }) (record { code = r; buffer = b }))
+          (number-short key header tag (length d) (length b) place h)
+          (message-short key header tag d h);
+    }
 
 -- a message whose length byte is at most 127: its parts are as before, whatever its size
 module _ (m : List ℕ) (h : getD m 1 0 ≤ 127) where
@@ -143,6 +162,10 @@ module _ (m : List ℕ) (l : length m ≤ sizeBefore) (h : 127 < getD m 1 0) whe
   unfolding shaped shapedBefore answer answerBefore
   refused-shaped = simp (refused-now, refused-before)
 
+  refused-fits : (key header : List ℕ) → codeFits key header m ≡ fitsBefore key header m
+  unfolding codeFits fitsBefore
+  refused-fits key header = simp (refused-now, refused-before)
+
   refused-opened : (key header : List ℕ) → opened key header m ≡ openedBefore key header m
   unfolding opened openedBefore openNumber numberBefore answer answerBefore
   refused-opened key header = go (given key header) refl
@@ -168,11 +191,14 @@ module _ (m : List ℕ) (l : length m ≤ sizeBefore) where
   pub shaped-as-before : shaped m ≡ base.shaped m
   shaped-as-before = by-form (same-shaped m) (refused-shaped m l)
 
+  pub fits-as-before : (key header : List ℕ) → codeFits key header m ≡ base.codeFits key header m
+  fits-as-before key header = by-form (λ h. same-fits m h key header) (λ h. refused-fits m l h key header)
+
   pub opened-as-before : (key header : List ℕ) → opened key header m ≡ base.opened key header m
   opened-as-before key header = by-form (λ h. same-opened m h key header) (λ h. refused-opened m l h key header)
 
-  pub judged-as-before : (r : Card) (header : List ℕ) → judged r header m ≡ base.judged r header m
-  unfolding judged judgedBefore
-  judged-as-before r header =
-      ap (first (strikes (not (sound r)) (refuses input) ∷ strikes (not (isOpen (r .transaction .phase))) (refuses phaseWrong) ∷ []))
+  pub script-as-before : (r : Card) (header : List ℕ) → step r (Script header m) ≡ base.script r header m
+  unfolding scriptBefore judged judgedBefore
+  script-as-before r header =
+      ap (λ (v : Verdict). scriptAs r (first (strikes (not (sound r)) (refuses input) ∷ strikes (not (isOpen (r .transaction .phase))) (refuses phaseWrong) ∷ []) v))
       (by-form (λ h. same-inOpen m h r header) (λ h. refused-inOpen m l h r header))

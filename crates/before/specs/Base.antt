@@ -1,7 +1,7 @@
 -- Messages, scripts and lines by 01 alone, before Wish 1: L from 0 to 127 in one byte, lines up to 280 digits. Each definition has the name of the
 -- one that stands in its place now; what does not touch the length field or the longest line is taken from there. Assumes nothing.
 use Prim.Native.Nat.{ℕ, _+_}
-use mathlib.Core.Bool.{Bool, true, not, _&&_, cond}
+use mathlib.Core.Bool.{Bool, not, _&&_, cond}
 use mathlib.Core.List.{List, [], _∷_, _++_}
 use lib.Dec.{leb, eqb}
 use lib.ListN.{length, getD, take, drop}
@@ -14,6 +14,7 @@ use Rattle.message.specs.declared.command.Listed.{Listed}
 use Rattle.message.specs.declared.command.Listed.the-variants.{One, Unlisted}
 use Rattle.message.specs.Shape.{tagFits, codeHead, tagOf}
 use Rattle.message.specs.Code.{codeFor, given}
+use Rattle.message.specs.Answers.{laid, Written}
 use Rattle.message.specs.Command.{commandOf}
 use Rattle.card.specs.declared.Card.{Card}
 use Rattle.card.specs.declared.Reply.{Reply}
@@ -47,7 +48,7 @@ codeIn m = drop (2 + lengthOf m + 2) m
 unfoldable pub shape : List ℕ → Bool
 shape m = tagFits (tagOf m) && (leb (lengthOf m) largest && (same (bodyOf m) (body (tagOf m) (dataOf m)) && eqb (length (codeIn m)) 4))
 
--- the code, opening, and the message that is written
+-- the code, opening and wrapping
 unfoldable pub codeFits : List ℕ → List ℕ → List ℕ → Bool
 codeFits key header m = given key header && (shape m && same (codeIn m) (codeFor key header (bodyOf m)))
 
@@ -65,6 +66,17 @@ opened key header m = answer (openNumber key header m) m
 
 unfoldable pub message : List ℕ → List ℕ → ℕ → List ℕ → List ℕ
 message key header tag d = body tag d ++ codeFor key header (body tag d)
+
+-- "Its size is L + 8"
+unfoldable pub wrapNumber : List ℕ → List ℕ → ℕ → ℕ → ℕ → ℕ → ℕ
+wrapNumber key header tag n size place =
+    cond (given key header && (tagFits tag && leb n largest)) (cond (leb (place + (n + 8)) size) 0 3) 1
+
+unfoldable pub wrapped : List ℕ → List ℕ → ℕ → List ℕ → List ℕ → ℕ → Written
+wrapped key header tag d b place =
+    cond (eqb (wrapNumber key header tag (length d) (length b) place) 0)
+    (record { code = 0; buffer = laid b place (message key header tag d) })
+    (record { code = wrapNumber key header tag (length d) (length b) place; buffer = b })
 
 -- Script
 unfoldable pub pinIn : Card → List ℕ → PinRead
@@ -96,6 +108,9 @@ judged r h m =
     ∷ [])
     (inOpen r h m)
 
+unfoldable pub script : Card → List ℕ → List ℕ → Reply
+script r h m = scriptAs r (judged r h m)
+
 -- "more than 280 digits is 13"
 unfoldable pub longest : ℕ
 longest = 280
@@ -105,7 +120,7 @@ readable l = leb (length l) longest && (hexadecimal l && leb (getD (octetsOf l) 
 
 -- frames: of the calls only Script reads a message
 unfoldable pub called : Card → ℕ → List ℕ → Reply
-called r f s = cond (eqb f 3) (scriptAs r (judged r (take 4 s) (drop 4 s))) (calledNow r f s)
+called r f s = cond (eqb f 3) (script r (take 4 s) (drop 4 s)) (calledNow r f s)
 
 unfoldable pub calling : Held → ℕ → List ℕ → Answer
 calling h f s = cond (h .exists) (replied f (called (h .card) f s)) (numbered h 6)

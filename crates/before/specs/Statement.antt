@@ -5,11 +5,13 @@ use mathlib.Core.Bool.{Bool, true, _&&_}
 use mathlib.Core.List.{List, [], _∷_}
 use lib.Dec.{leb}
 use lib.ListN.{length}
-use Rattle.message.specs.Code.{message}
-use Rattle.message.specs.Answers.{shaped, opened}
+use Rattle.message.specs.Code.{codeFits}
+use Rattle.message.specs.Answers.{shaped, opened, wrapped}
 use Rattle.card.specs.declared.Card.{Card}
-use Rattle.card.specs.Calls.{judged}
+use Rattle.card.specs.Calls.{step, Script}
+use Rattle.trace.specs.declared.Held.{Held}
 use Rattle.trace.specs.Lines.{lines}
+use Rattle.trace.specs.Frames.{answerTo}
 use Rattle.trace.specs.Traced.{traced}
 use Rattle.before.specs.Base as base
 
@@ -24,13 +26,16 @@ unfoldable pub noneAbove : ℕ → List (List ℕ) → Bool
 noneAbove n [] = true
 noneAbove n (l ∷ ls) = leb (length l) n && noneAbove n ls
 
--- reading: shape, opening and script of a message; a trace from its whole input to its whole output
+-- reading: shape, code, opening and Script of a message; a line, whatever lines stand beside it; a trace from its whole input to its whole output, and so
+-- fed in parts, which answers the same
 pub record ReadsAsBefore : Type 0 where
   pub of-shape : (m : List ℕ) → length m ≤ sizeBefore → shaped m ≡ base.shaped m
+  pub of-code : (key header m : List ℕ) → length m ≤ sizeBefore → codeFits key header m ≡ base.codeFits key header m
   pub of-opening : (key header m : List ℕ) → length m ≤ sizeBefore → opened key header m ≡ base.opened key header m
-  pub of-script : (r : Card) (header m : List ℕ) → length m ≤ sizeBefore → judged r header m ≡ base.judged r header m
+  pub of-script : (r : Card) (header m : List ℕ) → length m ≤ sizeBefore → step r (Script header m) ≡ base.script r header m
+  pub of-line : (h : Held) (l : List ℕ) → length l ≤ lineBefore → answerTo h l ≡ base.answerTo h l
   pub of-trace : (text : List ℕ) → noneAbove lineBefore (lines text) ≡ true → traced text ≡ base.traced text
 
 -- and writing: "0 to 127 keeps its one byte"
-abbrev pub WritesAsBefore : Type 0
-WritesAsBefore = (key header : List ℕ) (tag : ℕ) (d : List ℕ) → length d ≤ 127 → message key header tag d ≡ base.message key header tag d
+pub record WritesAsBefore : Type 0 where
+  pub of-wrapping : (key header : List ℕ) (tag : ℕ) (d b : List ℕ) (place : ℕ) → length d ≤ 127 → wrapped key header tag d b place ≡ base.wrapped key header tag d b place

@@ -1,1 +1,1 @@
-// That a longer length field and longer lines leave all as it was which could be read before them: the statement is in specs/, its proof in proofs/. There is no code.
+// That longer messages and longer lines leave what could be read before as it was: the statement is in specs/, its proof in proofs/. There is no code.

@@ -35,7 +35,7 @@ cardAt atc =
 abbrev pub spoiltCard : Card
 spoiltCard = withTransaction (cardAt 1) (spoilt (begun false (replicate 8 0)))
 
--- a message of a length field with n bytes of data, and four bytes for its code
+-- a message with a given length field and n bytes of data, and four bytes for its code
 abbrev pub messageOf : List ℕ → ℕ → List ℕ
 messageOf field n = 0x81 ∷ (field ++ (replicate n 0xa5 ++ 0x8e ∷ 0x04 ∷ 0x01 ∷ 0x02 ∷ 0x03 ∷ 0x04 ∷ []))
 

@@ -52,6 +52,11 @@ pub P10-81-low : (t b : ℕ) (s : List ℕ) → b ≤ 0x7f → shaped (t ∷ 0x8
 unfolding largestShort lengthOf
 P10-81-low t b s h = unread (t ∷ 0x81 ∷ b ∷ s) (says-low 0x81 b (lit≤ tt) h)
 
+-- and 81 with nothing after it
+pub P10-81-cut : (t : ℕ) → shaped (t ∷ 0x81 ∷ []) ≡ Refused 4
+unfolding largestShort lengthOf
+P10-81-cut t = unread (t ∷ 0x81 ∷ []) (says-low 0x81 0 (lit≤ tt) (lit≤ tt))
+
 -- "no other form is read": byte 80 and 82 to ff
 pub P10-other : (t a : ℕ) (s : List ℕ) → 0x80 ≤ a → (a ≡ 0x81 → ⊥) → shaped (t ∷ a ∷ s) ≡ Refused 4
 unfolding largestShort lengthOf

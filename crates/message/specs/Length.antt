@@ -18,7 +18,7 @@ largestShort = 127
 unfoldable pub lengthField : ℕ → List ℕ
 lengthField n = cond (leb n largestShort) (n ∷ []) (0x81 ∷ n ∷ [])
 
--- what a field says that is byte a, or a and b; "no other form is read": it says more than a message may have
+-- what a field of byte a, or of a and b, says; "no other form is read": any other says 256, more than a message may have
 unfoldable pub fieldSays : ℕ → ℕ → ℕ
 fieldSays a b = cond (leb a largestShort) a (cond (eqb a 0x81 && leb (largestShort + 1) b) b (largest + 1))
 

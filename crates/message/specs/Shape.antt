@@ -39,6 +39,6 @@ bodyOf m = take (bodySize (lengthOf m)) m
 unfoldable pub codeIn : List ℕ → List ℕ
 codeIn m = drop (bodySize (lengthOf m)) m
 
--- "A message is a tag, one length byte L, L data bytes, 8e, 04, and the 4-byte code. Nothing follows."
+-- "A message is a tag, L" in its field (Length), "L data bytes, 8e, 04, and the 4-byte code. Nothing follows."
 unfoldable pub shape : List ℕ → Bool
 shape m = tagFits (tagOf m) && (leb (lengthOf m) largest && (same (bodyOf m) (body (tagOf m) (dataOf m)) && eqb (length (codeIn m)) 4))

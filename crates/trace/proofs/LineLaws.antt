@@ -10,9 +10,16 @@ use lib.ListN.{length, getD, take, drop, set, replicate, length-drop, length-tak
 use lib.Seq.{drop-cons, take-suc-set, getD-take, getD-drop, length-take-le, paste}
 use borrow.Author.Tests.{eq-eqb, ne-eqb, le-leb, lt-leb}
 use Rattle.octets.specs.Digits.{hexValue}
+use Rattle.message.specs.Length.{largest}
+use Rattle.message.specs.Shape.{sizeOf}
+use Rattle.message.proofs.Examples.{largest-message}
 use Rattle.octets.proofs.Parts.{made-turn, made-end}
-use Rattle.trace.specs.Lines.{legible, hexadecimal, octetOf, octetsOf}
+use Rattle.trace.specs.Lines.{longest, legible, hexadecimal, octetOf, octetsOf}
 use Rattle.trace.specs.Frames.{part}
+
+-- "the longest trace line 538 digits" (Wish 1): a first byte, a header and the largest message
+pub longest-line : longest ≡ 2 * (1 + 4 + sizeOf largest)
+longest-line = ap (λ (k : ℕ). 2 * (1 + 4 + k)) (sym largest-message)
 
 -- the signs looked at so far are digits
 module _ (s : List ℕ) (i : ℕ) (p : i < length s) (w : legible s ≡ legible (drop i s)) where

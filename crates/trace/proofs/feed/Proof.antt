@@ -1,7 +1,9 @@
 use Prim.Native.Nat.{ℕ, _+_, _-_, _*_, _/_, _≤_, _<_}
 use mathlib.Core.Path.{_≡_, refl}
+use native.Mathlib.Omega.{arith}
 use lib.ListN.{length, drop, take, replicate}
 use Rattle.trace.proofs.FeedLaws.{made, feed-line, feed-kept, feed-past, feed-end}
+use Rattle.trace.specs.Lines.{longest}
 use Rattle.trace.specs.Feeding.{fedFrom, fed}
 use borrow.Author.Needs.{needs}
 use Rattle.trace.proofs.feed.Statement.{statement}
@@ -20,10 +22,10 @@ returns : tie.Need-returns Inv-loop μ-loop
 returns c = search feed-line
 
 loop-again : tie.Need-loop-again Inv-loop μ-loop
-loop-again c = (search needs, search feed-kept)
+loop-again c = let h : c .before .before .before .before .loop .count ≤ longest = omega arith in (search needs, search feed-kept)
 
 loop-again-2 : tie.Need-loop-again-2 Inv-loop μ-loop
-loop-again-2 c = (search needs, search feed-past)
+loop-again-2 c = let h : longest < c .before .before .before .before .loop .count = omega arith in (search needs, search feed-past)
 
 returns-2 : tie.Need-returns-2 Inv-loop μ-loop
 returns-2 c = search feed-end

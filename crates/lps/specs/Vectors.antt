@@ -1,11 +1,12 @@
--- Vectors of 512 bits, and the transformations of RFC 6986 (GOST R 34.11-2012), section 7. The RFC writes a vector from its highest
+-- Vectors of 512 bits, and the transformations of RFC 6986 (GOST R 34.11-2012), section 7, with the permutation of section 6.3. The RFC writes a vector from its highest
 -- place down; here it is a list from its lowest place up: eight words of 64 bits, or 64 bytes. Assumes nothing.
-use mathlib.Core.List.{List, [], _∷_, _++_, map, reverse}
-use Prim.Native.Nat.{ℕ, _*_, _/_, _%_}
+use mathlib.Core.List.{List, [], _∷_, _++_, map}
+use Prim.Native.Nat.{ℕ, _*_}
 use lib.Bits.{bitXor}
 use lib.ListN.{getD, take, drop}
 use Rattle.octets.specs.Numbers.{le, leOctets}
-use Rattle.lps.specs.Tables.{pi, tau, A}
+use Rattle.tables.specs.Tables.{pi}
+use Rattle.tables.specs.Matrix.{l, entry}
 
 -- f(0) to f(7), the lowest first
 abbrev pub each : (ℕ → ℕ) → List ℕ
@@ -28,18 +29,21 @@ X k a = each (λ i. bitXor (getD k i 0) (getD a i 0))
 unfoldable pub S : List ℕ → List ℕ
 S a = map (λ b. getD pi b 0) a
 
+-- section 6.3: the permutation of bytes, from tau(0) to tau(63)
+unfoldable pub tau : List ℕ
+tau =
+    0 ∷ 8 ∷ 16 ∷ 24 ∷ 32 ∷ 40 ∷ 48 ∷ 56 ∷
+    1 ∷ 9 ∷ 17 ∷ 25 ∷ 33 ∷ 41 ∷ 49 ∷ 57 ∷
+    2 ∷ 10 ∷ 18 ∷ 26 ∷ 34 ∷ 42 ∷ 50 ∷ 58 ∷
+    3 ∷ 11 ∷ 19 ∷ 27 ∷ 35 ∷ 43 ∷ 51 ∷ 59 ∷
+    4 ∷ 12 ∷ 20 ∷ 28 ∷ 36 ∷ 44 ∷ 52 ∷ 60 ∷
+    5 ∷ 13 ∷ 21 ∷ 29 ∷ 37 ∷ 45 ∷ 53 ∷ 61 ∷
+    6 ∷ 14 ∷ 22 ∷ 30 ∷ 38 ∷ 46 ∷ 54 ∷ 62 ∷
+    7 ∷ 15 ∷ 23 ∷ 31 ∷ 39 ∷ 47 ∷ 55 ∷ 63 ∷ []
+
 -- P(a) = a_tau(63) || .. || a_tau(0), the bytes of a
 unfoldable pub P : List ℕ → List ℕ
 P a = map (λ i. getD a i 0) tau
-
--- the sum modulo 2 of the rows, each times its bit of b, the first row with bit 0
-unfoldable pub lin : List ℕ → ℕ → ℕ
-lin [] b = 0
-lin (r ∷ rs) b = bitXor (b % 2 * r) (lin rs (b / 2))
-
--- section 6.4: l(b) = b63 A[0] ⊕ .. ⊕ b0 A[63], the bits of b
-unfoldable pub l : ℕ → ℕ
-l b = lin (reverse A) b
 
 -- L(a) = l(a7) || .. || l(a0), the words of a
 unfoldable pub L : List ℕ → List ℕ
@@ -48,3 +52,7 @@ L a = map l a
 -- L(P(S(a))), on the words of a
 unfoldable pub LPS : List ℕ → List ℕ
 LPS a = L (words (P (S (bytes a))))
+
+-- the vector r and what the word a gives through table j, its byte i to word i: LPS goes word by word
+unfoldable pub added : ℕ → ℕ → List ℕ → List ℕ
+added j a r = each (λ i. bitXor (getD r i 0) (entry j (getD (leOctets 8 a) i 0)))

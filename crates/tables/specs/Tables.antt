@@ -1,4 +1,4 @@
--- The tables of RFC 6986 (GOST R 34.11-2012), sections 6.2 to 6.4, as it prints them. Assumes nothing.
+-- The tables of RFC 6986 (GOST R 34.11-2012), sections 6.2 and 6.4, as it prints them. Assumes nothing.
 use mathlib.Core.List.{List, [], _∷_}
 use Prim.Native.Nat.{ℕ}
 
@@ -21,18 +21,6 @@ pi =
     225 ∷ 27 ∷ 131 ∷ 73 ∷ 76 ∷ 63 ∷ 248 ∷ 254 ∷ 141 ∷ 83 ∷ 170 ∷ 144 ∷ 202 ∷ 216 ∷ 133 ∷ 97 ∷
     32 ∷ 113 ∷ 103 ∷ 164 ∷ 45 ∷ 43 ∷ 9 ∷ 91 ∷ 203 ∷ 155 ∷ 37 ∷ 208 ∷ 190 ∷ 229 ∷ 108 ∷ 82 ∷
     89 ∷ 166 ∷ 116 ∷ 210 ∷ 230 ∷ 244 ∷ 180 ∷ 192 ∷ 209 ∷ 102 ∷ 175 ∷ 194 ∷ 57 ∷ 75 ∷ 99 ∷ 182 ∷ []
-
--- section 6.3: the permutation of bytes, from tau(0) to tau(63)
-unfoldable pub tau : List ℕ
-tau =
-    0 ∷ 8 ∷ 16 ∷ 24 ∷ 32 ∷ 40 ∷ 48 ∷ 56 ∷
-    1 ∷ 9 ∷ 17 ∷ 25 ∷ 33 ∷ 41 ∷ 49 ∷ 57 ∷
-    2 ∷ 10 ∷ 18 ∷ 26 ∷ 34 ∷ 42 ∷ 50 ∷ 58 ∷
-    3 ∷ 11 ∷ 19 ∷ 27 ∷ 35 ∷ 43 ∷ 51 ∷ 59 ∷
-    4 ∷ 12 ∷ 20 ∷ 28 ∷ 36 ∷ 44 ∷ 52 ∷ 60 ∷
-    5 ∷ 13 ∷ 21 ∷ 29 ∷ 37 ∷ 45 ∷ 53 ∷ 61 ∷
-    6 ∷ 14 ∷ 22 ∷ 30 ∷ 38 ∷ 46 ∷ 54 ∷ 62 ∷
-    7 ∷ 15 ∷ 23 ∷ 31 ∷ 39 ∷ 47 ∷ 55 ∷ 63 ∷ []
 
 -- section 6.4: the rows of the matrix A, from row 0 to row 63
 unfoldable pub A : List ℕ

@@ -11,8 +11,8 @@ use Rattle.octets.specs.Numbers.{Octets, le, leOctets}
 use Rattle.octets.proofs.NumberLaws.{leOctets-le, length-leOctets, octets-leOctets}
 use Rattle.octets.proofs.Parts.{getD-map, octets-test, octets-take, octets-drop, octets-append}
 use Rattle.octets.proofs.Table.{at}
-use Rattle.lps.specs.Tables.{pi, tau}
-use Rattle.lps.specs.Vectors.{bytes, S, P}
+use Rattle.tables.specs.Tables.{pi}
+use Rattle.lps.specs.Vectors.{bytes, tau, S, P}
 
 pub length-bytes : (v : List ℕ) → length (bytes v) ≡ length v * 8
 unfolding bytes
@@ -41,28 +41,6 @@ bytes-at (w ∷ v) (suc j) i hj hi =
     ∙ getD-append-add (leOctets 8 w) (bytes v) (j * 8 + i) 0
     ∙ bytes-at v j i (omega arith) hi
 
--- the table pi: 256 bytes, read eight at a time
-pi-count : length pi ≡ 256
-unfolding pi
-pi-count = refl
-
-pi-octets : Octets pi
-unfolding pi
-pi-octets = octets-test pi tt
-
-pub pi-at : (b : ℕ) → b < 256 → getD (leOctets 8 (le (take 8 (drop (8 * (b / 8)) pi)))) (b % 8) 0 ≡ getD pi b 0
-pi-at b h =
-    let s : List ℕ = take 8 (drop (8 * (b / 8)) pi) in
-    let n : length pi ≡ 256 = pi-count in
-    let m : length s ≡ 8 = length-take-le 8 (drop (8 * (b / 8)) pi) (simp length-drop (omega arith)) in
-    let o : leOctets (length s) (le s) ≡ s = leOctets-le s (octets-take 8 (drop (8 * (b / 8)) pi) (octets-drop (8 * (b / 8)) pi pi-octets)) in
-    let e : 8 * (b / 8) + b % 8 ≡ b = omega arith in
-    ap (λ (k : ℕ). getD (leOctets k (le s)) (b % 8) 0) (sym m)
-    ∙ ap (λ (t : List ℕ). getD t (b % 8) 0) o
-    ∙ getD-take 8 (drop (8 * (b / 8)) pi) (b % 8) 0 (omega arith)
-    ∙ getD-drop (8 * (b / 8)) pi (b % 8) 0
-    ∙ ap (λ (k : ℕ). getD pi k 0) e
-
 -- tau, place by place
 tau? : ℕ → ℕ → Bool
 tau? k x = eqb x (k % 8 * 8 + k / 8)
@@ -79,15 +57,14 @@ pub length-P : (a : List ℕ) → length (P a) ≡ 64
 unfolding P
 length-P a = length-map tau (λ i. getD a i 0) ∙ tau-count
 
--- byte k of P(S(a))
-pub permuted-at : (a : List ℕ) (k : ℕ) → length a ≡ 8 → k < 64
-    → getD pi (getD (leOctets 8 (getD a (k % 8) 0)) (k / 8 % 8) 0) 0 ≡ getD (P (S (bytes a))) k 0
+-- byte j of word i of P(S(a)) is pi of byte i of word j
+pub permuted-at : (a : List ℕ) (i j : ℕ) → length a ≡ 8 → i < 8 → j < 8
+    → getD (P (S (bytes a))) (8 * i + j) 0 ≡ getD pi (getD (leOctets 8 (getD a j 0)) i 0) 0
 unfolding P S
-permuted-at a k e h =
+permuted-at a i j e hi hj =
     let n : length (bytes a) ≡ length a * 8 = length-bytes a in
-    let t : k / 8 % 8 ≡ k / 8 = omega arith in
-    sym (getD-map (λ i. getD (S (bytes a)) i 0) tau k (subst (λ (m : ℕ). k < m) (sym tau-count) h)
-    ∙ ap (λ (i : ℕ). getD (S (bytes a)) i 0) (tau-at k h)
-    ∙ getD-map (λ b. getD pi b 0) (bytes a) (k % 8 * 8 + k / 8) (omega arith)
-    ∙ ap (λ (b : ℕ). getD pi b 0) (bytes-at a (k % 8) (k / 8) (omega arith) (omega arith)
-    ∙ ap (λ (i : ℕ). getD (leOctets 8 (getD a (k % 8) 0)) i 0) (sym t)))
+    let t : (8 * i + j) % 8 * 8 + (8 * i + j) / 8 ≡ j * 8 + i = omega arith in
+    getD-map (λ k. getD (S (bytes a)) k 0) tau (8 * i + j) (omega (arith, tau-count))
+    ∙ ap (λ (k : ℕ). getD (S (bytes a)) k 0) (tau-at (8 * i + j) (omega arith) ∙ t)
+    ∙ getD-map (λ b. getD pi b 0) (bytes a) (j * 8 + i) (omega arith)
+    ∙ ap (λ (b : ℕ). getD pi b 0) (bytes-at a j i (omega arith) hi)

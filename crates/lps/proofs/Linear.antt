@@ -1,19 +1,22 @@
--- The map by rows goes byte by byte, so that a word goes through the matrix by eight rows for each of its bytes. Assumes nothing.
+-- The map by rows goes byte by byte, so that a word goes through the matrix by one look into a table for each of its bytes. Assumes
+-- nothing.
 use mathlib.Core.Path.{_≡_, refl, sym, ap, ap₂, _∙_, subst}
-use mathlib.Core.List.{List, [], _∷_, _++_, reverse}
-use Prim.Native.Nat.{ℕ, suc, _+_, _*_, _/_, _%_, _^_, _<_}
-use native.Mathlib.Nat.{mul-one, add-zero, add-comm, mul-comm}
+use mathlib.Core.List.{List, [], _∷_, _++_, map, reverse}
+use Prim.Native.Nat.{ℕ, zero, suc, _+_, _*_, _/_, _%_, _^_, _<_, _≤_}
+use native.Mathlib.Nat.{mul-one, one-mul, zero-mul, add-zero, zero-add, add-comm, mul-comm, mul-assoc, pow-suc}
 use native.Mathlib.Numerals.{add-one}
 use native.Mathlib.Omega.{arith}
 use lib.Arith.{lt-one}
 use lib.Pow.{shr-lt}
 use lib.Bits.{bitXor, block-half, block-odd, xor-zero-r}
-use lib.ListN.{length, take, drop, length-drop, take-append-drop}
-use lib.Seq.{length-take-le}
-use Rattle.octets.specs.Numbers.{le}
+use lib.Dec.{lit<}
+use lib.ListN.{length, getD, take, drop, length-drop, take-append-drop}
+use lib.Seq.{length-take-le, drop-drop}
+use Rattle.octets.specs.Numbers.{Octets, le}
+use Rattle.octets.proofs.Parts.{octets-test}
 use Rattle.octets.proofs.Xor.{xor-assoc}
-use Rattle.lps.specs.Tables.{A}
-use Rattle.lps.specs.Vectors.{lin, l}
+use Rattle.tables.specs.Tables.{pi, A}
+use Rattle.tables.specs.Matrix.{lin, l, entry}
 
 lin-split : (rs ss : List ℕ) (q b : ℕ) → b < 2 ^ length rs → lin (rs ++ ss) (q * 2 ^ length rs + b) ≡ bitXor (lin rs b) (lin ss q)
 unfolding lin
@@ -24,46 +27,73 @@ lin-split (r ∷ rs) ss q b h =
     (lin-split rs ss q (b / 2) (shr-lt (length rs) 1 (subst (λ (n : ℕ). b < 2 ^ n) (sym (add-one (length rs))) h)))
     ∙ sym (xor-assoc (b % 2 * r) (lin rs (b / 2)) (lin ss q))
 
--- eight rows take a byte
-lin-byte : (rs ss : List ℕ) → length rs ≡ 8 → (b q : ℕ) → b < 256 → lin (rs ++ ss) (b + 256 * q) ≡ bitXor (lin rs b) (lin ss q)
-lin-byte rs ss e b q h =
-    ap (lin (rs ++ ss)) (add-comm b (256 * q) ∙ ap (λ (x : ℕ). x + b) (mul-comm 256 q))
-    ∙ subst (λ (n : ℕ). b < 2 ^ n → lin (rs ++ ss) (q * 2 ^ n + b) ≡ bitXor (lin rs b) (lin ss q)) e (lin-split rs ss q b) h
+lin-zero : (rs : List ℕ) → lin rs 0 ≡ 0
+unfolding lin
+lin-zero [] = refl
+lin-zero (r ∷ rs) = ap₂ bitXor (zero-mul r) (lin-zero rs)
 
--- bytes through rows, eight rows each
-byBytes : List ℕ → List ℕ → ℕ
-byBytes rs [] = 0
-byBytes rs (b ∷ bs) = bitXor (lin (take 8 rs) b) (byBytes (drop 8 rs) bs)
+module _ (rs : List ℕ) (n : 8 ≤ length rs) where
+  -- the lowest byte goes by the first eight rows, and the rest by the others
+  lin-byte : (b q : ℕ) → b < 256 → lin rs (b + 256 * q) ≡ bitXor (lin (take 8 rs) b) (lin (drop 8 rs) q)
+  lin-byte b q h =
+      ap₂ lin (sym (take-append-drop 8 rs)) (add-comm b (256 * q) ∙ ap (λ (x : ℕ). x + b) (mul-comm 256 q))
+      ∙ subst (λ (k : ℕ). b < 2 ^ k → lin (take 8 rs ++ drop 8 rs) (q * 2 ^ k + b) ≡ bitXor (lin (take 8 rs) b) (lin (drop 8 rs) q))
+      (length-take-le 8 rs n) (lin-split (take 8 rs) (drop 8 rs) q b) h
 
-abbrev pub Bounds : List ℕ → Type 0
-Bounds [] = Unit
-Bounds (b ∷ bs) = (b < 256) × Bounds bs
+  lin-low : (b : ℕ) → b < 256 → lin rs b ≡ lin (take 8 rs) b
+  lin-low b h =
+      sym (ap (lin rs) (add-zero b))
+      ∙ lin-byte b 0 h
+      ∙ ap (bitXor (lin (take 8 rs) b)) (lin-zero (drop 8 rs))
+      ∙ xor-zero-r (lin (take 8 rs) b)
 
-lin-bytes : (bs rs : List ℕ) → Bounds bs → length rs ≡ length bs * 8 → lin rs (le bs) ≡ byBytes rs bs
-unfolding byBytes le lin
-lin-bytes [] [] h e = refl
-lin-bytes [] (r ∷ rs) h e = absurd (omega arith)
-lin-bytes (b ∷ bs) rs h e =
-    let n : length rs ≡ suc (length bs) * 8 = e in
-    ap (λ (x : List ℕ). lin x (b + 256 * le bs)) (sym (take-append-drop 8 rs))
-    ∙ lin-byte (take 8 rs) (drop 8 rs) (length-take-le 8 rs (omega arith)) b (le bs) (h .0)
-    ∙ ap (bitXor (lin (take 8 rs) b)) (lin-bytes bs (drop 8 rs) (h .1) (length-drop 8 rs ∙ omega arith))
+  lin-high : (q : ℕ) → lin rs (256 * q) ≡ lin (drop 8 rs) q
+  lin-high q =
+      sym (ap (lin rs) (zero-add (256 * q)))
+      ∙ lin-byte 0 q (lit< tt)
+      ∙ ap (λ (x : ℕ). bitXor x (lin (drop 8 rs) q)) (lin-zero (take 8 rs))
 
--- the rows of byte j of a word
-abbrev pub R : ℕ → List ℕ
-R j = take 8 (drop (8 * j) (reverse A))
+-- byte j goes by the eight rows from 8 j on
+lin-shifted : (j : ℕ) (rs : List ℕ) → 8 * j ≤ length rs → (x : ℕ) → lin rs (256 ^ j * x) ≡ lin (drop (8 * j) rs) x
+lin-shifted zero rs n x = ap (lin rs) (one-mul x)
+lin-shifted (suc j) rs n x =
+    let e : 8 + 8 * j ≡ 8 * suc j = omega arith in
+    ap (lin rs) (ap (λ (y : ℕ). y * x) (pow-suc 256 j ∙ mul-comm (256 ^ j) 256) ∙ mul-assoc 256 (256 ^ j) x)
+    ∙ lin-high rs (omega arith) (256 ^ j * x)
+    ∙ lin-shifted j (drop 8 rs) (simp length-drop (omega arith)) x
+    ∙ ap (λ (s : List ℕ). lin s x) (drop-drop (8 * j) 8 rs ∙ ap (λ (k : ℕ). drop k rs) e)
 
 count : length (reverse A) ≡ 64
 unfolding A
 count = refl
 
-pub word-law : {b0 b1 b2 b3 b4 b5 b6 b7 x0 x1 x2 x3 x4 x5 x6 x7 : ℕ} → Bounds (b0 ∷ b1 ∷ b2 ∷ b3 ∷ b4 ∷ b5 ∷ b6 ∷ b7 ∷ [])
-    → x0 ≡ lin (R 0) b0 → x1 ≡ lin (R 1) b1 → x2 ≡ lin (R 2) b2 → x3 ≡ lin (R 3) b3
-    → x4 ≡ lin (R 4) b4 → x5 ≡ lin (R 5) b5 → x6 ≡ lin (R 6) b6 → x7 ≡ lin (R 7) b7
-    → bitXor x0 (bitXor x1 (bitXor x2 (bitXor x3 (bitXor x4 (bitXor x5 (bitXor x6 x7))))))
-    ≡ l (le (b0 ∷ b1 ∷ b2 ∷ b3 ∷ b4 ∷ b5 ∷ b6 ∷ b7 ∷ []))
-unfolding byBytes l A
-word-law {b7} h e0 e1 e2 e3 e4 e5 e6 e7 =
-    (λ k. bitXor (e0 k) (bitXor (e1 k) (bitXor (e2 k) (bitXor (e3 k) (bitXor (e4 k) (bitXor (e5 k) (bitXor (e6 k)
-    ((e7 ∙ sym (xor-zero-r (lin (R 7) b7))) k))))))))
-    ∙ sym (lin-bytes _ (reverse A) h count)
+pi-octets : Octets pi
+unfolding pi
+pi-octets = octets-test pi tt
+
+-- the words of the bytes of cs, from table j on, added to x
+abbrev pub looked : ℕ → ℕ → List ℕ → ℕ
+looked x j [] = x
+looked x j (c ∷ cs) = looked (bitXor x (entry j c)) (suc j) cs
+
+looked-lin : (cs : List ℕ) (x j : ℕ) → 8 * (j + length cs) ≤ 64
+    → looked x j cs ≡ bitXor x (lin (drop (8 * j) (reverse A)) (le (map (λ c. getD pi c 0) cs)))
+unfolding le entry l
+looked-lin [] x j h = sym (ap (bitXor x) (lin-zero (drop (8 * j) (reverse A))) ∙ xor-zero-r x)
+looked-lin (c ∷ cs) x j h =
+    let D : List ℕ = drop (8 * j) (reverse A) in
+    let q : ℕ = le (map (λ d. getD pi d 0) cs) in
+    let n : length (reverse A) ≡ 64 = count in
+    let m : 8 ≤ length D = simp length-drop (omega arith) in
+    let e : 8 * j + 8 ≡ 8 * suc j = omega arith in
+    looked-lin cs (bitXor x (entry j c)) (suc j) (omega arith)
+    ∙ xor-assoc x (entry j c) (lin (drop (8 * suc j) (reverse A)) q)
+    ∙ ap (bitXor x)
+    (ap₂ bitXor (lin-shifted j (reverse A) (omega arith) (getD pi c 0) ∙ lin-low D m (getD pi c 0) (pi-octets c))
+    (ap (λ (s : List ℕ). lin s q) (sym (drop-drop 8 (8 * j) (reverse A) ∙ ap (λ (k : ℕ). drop k (reverse A)) e)))
+    ∙ sym (lin-byte D m (getD pi c 0) q (pi-octets c)))
+
+-- a word of eight bytes that went through pi
+pub looked-word : (cs : List ℕ) → length cs ≡ 8 → looked 0 0 cs ≡ l (le (map (λ c. getD pi c 0) cs))
+unfolding l
+looked-word cs e = looked-lin cs 0 0 (omega arith)

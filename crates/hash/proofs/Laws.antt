@@ -16,8 +16,8 @@ use Rattle.lps.specs.Vectors.{X, words, bytes}
 use Rattle.lps.proofs.Bytes.{length-bytes, octets-bytes}
 use Rattle.hash.specs.declared.Core.{Core}
 use Rattle.hash.specs.declared.State.{State}
-use Rattle.hash.specs.Sums.{vec}
-use Rattle.hash.specs.Rounds.{g}
+use Rattle.rounds.specs.Sums.{vec}
+use Rattle.rounds.specs.Rounds.{g}
 use Rattle.hash.specs.Hash.{start, step, advanced, padded, closed, finished, hash256}
 use Rattle.hash.specs.States.{filled, stateOf, held, begun, fed, ended}
 

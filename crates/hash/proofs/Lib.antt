@@ -1,5 +1,3 @@
 pub mod Laws
-pub mod SumLaws
-pub mod RoundLaws
 pub mod BlockLaws
 pub mod FeedLaws

@@ -5,8 +5,8 @@ use Prim.Native.Nat.{ℕ, _-_, _*_}
 use lib.ListN.{length, drop, replicate}
 use Rattle.blocks.specs.Blocks.{absorbed, tail}
 use Rattle.lps.specs.Vectors.{words, bytes}
-use Rattle.hash.specs.Sums.{vec, _⊞_}
-use Rattle.hash.specs.Rounds.{g}
+use Rattle.rounds.specs.Sums.{vec, _⊞_}
+use Rattle.rounds.specs.Rounds.{g}
 use Rattle.hash.specs.declared.Core.{Core}
 
 -- Stage 1: h = IV, N = 0, Sigma = 0. IV is 64 bytes 01 (section 6.1)

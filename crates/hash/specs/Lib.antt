@@ -1,5 +1,2 @@
-pub mod Constants
-pub mod Sums
-pub mod Rounds
 pub mod Hash
 pub mod States

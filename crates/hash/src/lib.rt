@@ -1,22 +1,17 @@
 // The hash of GOST R 34.11-2012 with 256 bits (RFC 6986), of a message at once or in parts of any length.
 ghost use mathlib.Core.Path.{_≡_};
 ghost use mathlib.Core.List.{[], _∷_};
-ghost use Prim.Native.Nat.{_+_, _*_, _^_, _<_, _≤_};
-ghost use lib.ListN.{getD, length, take, drop};
+ghost use Prim.Native.Nat.{_+_, _<_, _≤_};
+ghost use lib.ListN.{length, take, drop};
 ghost use lib.Seq.{paste};
 ghost use Rattle.octets.specs.Numbers.{le};
 ghost use Rattle.blocks.specs.Blocks.{absorbed};
-ghost use Rattle.lps.specs.Vectors.{X, words, bytes};
-ghost use Rattle.hash.specs.Constants.{C};
-ghost use Rattle.hash.specs.Sums.{vec, _⊞_};
-ghost use Rattle.hash.specs.Rounds.{E, g};
+ghost use Rattle.lps.specs.Vectors.{words, bytes};
 ghost use Rattle.hash.specs.Hash.{advanced, step, padded as paddedTo, closed as closedOf, hash256};
 ghost use Rattle.hash.specs.States.{begun, fed, ended};
 
-mod constants;
-
-use lps::lps;
 use octets::octet;
+use rounds::{add, compress};
 
 // What the whole blocks so far have made: h, and the numbers N and Sigma.
 pub struct Core {
@@ -30,102 +25,6 @@ pub struct State {
     pub core: Core,
     pub buffer: [u8; 64],
     pub fill: usize,
-}
-
-// X[a](b).
-fn xor(a: [u64; 8], b: [u64; 8]) -> [u64; 8]
-    ensures { λ r. ⌜ r ≡ X a b ⌝ }
-{
-    [
-        a[0] ^ b[0],
-        a[1] ^ b[1],
-        a[2] ^ b[2],
-        a[3] ^ b[3],
-        a[4] ^ b[4],
-        a[5] ^ b[5],
-        a[6] ^ b[6],
-        a[7] ^ b[7],
-    ]
-}
-
-// The constant C_(i+1).
-fn constant(i: usize) -> [u64; 8]
-    requires { ⌜ i < 12 ⌝ }
-    ensures { λ r. ⌜ r ≡ vec (getD C i 0) ⌝ }
-{
-    match i {
-        0 => constants::C1,
-        1 => constants::C2,
-        2 => constants::C3,
-        3 => constants::C4,
-        4 => constants::C5,
-        5 => constants::C6,
-        6 => constants::C7,
-        7 => constants::C8,
-        8 => constants::C9,
-        9 => constants::C10,
-        10 => constants::C11,
-        _ => constants::C12,
-    }
-}
-
-// E(k, m): twelve rounds, the key schedule beside them.
-fn encrypt(k: [u64; 8], m: [u64; 8]) -> [u64; 8]
-    ensures { λ r. ⌜ r ≡ E k m ⌝ }
-{
-    let mut key = k;
-    let mut s = m;
-    let mut i = 0;
-    while i < 12 {
-        s = lps(xor(key, s));
-        key = lps(xor(key, constant(i)));
-        i += 1;
-    }
-    xor(key, s)
-}
-
-// g_n(h, m).
-fn compress(n: [u64; 8], h: [u64; 8], m: [u64; 8]) -> [u64; 8]
-    ensures { λ r. ⌜ r ≡ g n h m ⌝ }
-{
-    xor(xor(encrypt(lps(xor(h, n)), m), h), m)
-}
-
-struct Sum {
-    value: u64,
-    carry: u64,
-}
-
-// x + y + c, as a word and a carry.
-fn add_word(x: u64, y: u64, c: u64) -> Sum
-    requires { ⌜ c ≤ 1 ⌝ }
-    ensures { λ r. ⌜ (r .value + r .carry * 2 ^ 64 ≡ x + y + c) × (r .carry ≤ 1) × (r .value < 2 ^ 64) ⌝ }
-{
-    let s = std::num::wrapping_add_u64(x, y);
-    let v = std::num::wrapping_add_u64(s, c);
-    if s < x {
-        return Sum { value: v, carry: 1 };
-    }
-    if v < s {
-        return Sum { value: v, carry: 1 };
-    }
-    Sum { value: v, carry: 0 }
-}
-
-// a ⊞ b.
-fn add(a: [u64; 8], b: [u64; 8]) -> [u64; 8]
-    ensures { λ r. ⌜ r ≡ a ⊞ b ⌝ }
-{
-    let mut r = [0; 8];
-    let mut carry = 0;
-    let mut i = 0;
-    while i < 8 {
-        let s = add_word(a[i], b[i], carry);
-        r[i] = s.value;
-        carry = s.carry;
-        i += 1;
-    }
-    r
 }
 
 // The word of eight bytes, lowest first.

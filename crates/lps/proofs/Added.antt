@@ -1,7 +1,7 @@
 -- What a word adds through its table, word by word. Assumes nothing.
 use mathlib.Core.Path.{_≡_, refl, sym, ap, ap₂, _∙_}
 use mathlib.Core.List.{List}
-use Prim.Native.Nat.{ℕ, zero, suc, _+_, _%_, _<_, _≤_}
+use Prim.Native.Nat.{ℕ, _+_, _%_, _<_, _≤_}
 use native.Mathlib.Nat.{mod-eq-of-lt}
 use native.Mathlib.Omega.{arith}
 use lib.Bits.{bitXor}
@@ -10,18 +10,8 @@ use lib.Seq.{paste}
 use Rattle.octets.specs.Numbers.{leOctets}
 use Rattle.octets.proofs.Parts.{made-turn, made-end}
 use Rattle.tables.specs.Matrix.{entry}
-use Rattle.lps.specs.Vectors.{each, added}
-
-each-at : (f : ℕ → ℕ) (i : ℕ) → i < 8 → getD (each f) i 0 ≡ f i
-each-at f zero h = refl
-each-at f (suc zero) h = refl
-each-at f (suc (suc zero)) h = refl
-each-at f (suc (suc (suc zero))) h = refl
-each-at f (suc (suc (suc (suc zero)))) h = refl
-each-at f (suc (suc (suc (suc (suc zero))))) h = refl
-each-at f (suc (suc (suc (suc (suc (suc zero)))))) h = refl
-each-at f (suc (suc (suc (suc (suc (suc (suc zero))))))) h = refl
-each-at f (suc (suc (suc (suc (suc (suc (suc (suc i)))))))) h = absurd (omega arith)
+use Rattle.lps.specs.Vectors.{added}
+use Rattle.lps.proofs.Each.{each-at}
 
 length-added : (j a : ℕ) (r : List ℕ) → length (added j a r) ≡ 8
 unfolding added

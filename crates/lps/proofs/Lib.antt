@@ -1,3 +1,4 @@
+pub mod Each
 pub mod Linear
 pub mod Bytes
 pub mod Words

@@ -1,25 +1,21 @@
 -- LPS word by word, as the tables give it. Assumes nothing.
 use mathlib.Core.Path.{_≡_, refl, sym, ap, _∙_}
-use mathlib.Core.List.{List, [], _∷_, map}
+use mathlib.Core.List.{List, map}
 use Prim.Native.Nat.{ℕ, _+_, _*_, _<_}
 use native.Mathlib.Omega.{arith}
-use lib.Dec.{lit<}
 use lib.ListN.{length, getD, take, drop, replicate}
 use Rattle.octets.specs.Numbers.{le, leOctets}
 use Rattle.octets.proofs.Parts.{elements-part}
 use Rattle.tables.specs.Tables.{pi}
 use Rattle.tables.specs.Matrix.{l}
 use Rattle.lps.specs.Vectors.{each, bytes, words, S, P, L, LPS, added}
+use Rattle.lps.proofs.Each.{each-equal}
 use Rattle.lps.proofs.Linear.{looked, looked-word}
 use Rattle.lps.proofs.Bytes.{length-P, permuted-at}
 
 -- byte i of each word
 abbrev column : List ℕ → ℕ → List ℕ
 column a i = map (λ w. getD (leOctets 8 w) i 0) (each (λ j. getD a j 0))
-
-each-equal : {f g : ℕ → ℕ} → ((i : ℕ) → i < 8 → f i ≡ g i) → each f ≡ each g
-each-equal h =
-    λ k. h 0 (lit< tt) k ∷ h 1 (lit< tt) k ∷ h 2 (lit< tt) k ∷ h 3 (lit< tt) k ∷ h 4 (lit< tt) k ∷ h 5 (lit< tt) k ∷ h 6 (lit< tt) k ∷ h 7 (lit< tt) k ∷ []
 
 module _ (a : List ℕ) (n : length a ≡ 8) where
   permuted-column : (i : ℕ) → i < 8 → take 8 (drop (8 * i) (P (S (bytes a)))) ≡ map (λ c. getD pi c 0) (column a i)

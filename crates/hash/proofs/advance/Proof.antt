@@ -1,9 +1,9 @@
 use mathlib.Core.Path.{ap, _∙_}
 use mathlib.Core.List.{List}
 use Prim.Native.Nat.{ℕ}
-use Rattle.hash.specs.Sums.{_⊞_}
+use Rattle.rounds.specs.Sums.{_⊞_}
 use Rattle.hash.specs.Hash.{advanced}
-use Rattle.hash.proofs.SumLaws.{vec-word}
+use Rattle.rounds.proofs.SumLaws.{vec-word}
 use borrow.Author.Needs.{needs}
 use Rattle.hash.proofs.advance.Statement.{statement}
 use Rattle.hash.proofs.advance.Tie as tie

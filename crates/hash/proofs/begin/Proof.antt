@@ -1,7 +1,7 @@
 use mathlib.Core.Path.{refl}
 use Rattle.octets.specs.Numbers.{le}
 use Rattle.lps.specs.Vectors.{words}
-use Rattle.hash.specs.Sums.{vec, lowest}
+use Rattle.rounds.specs.Sums.{vec, lowest}
 use Rattle.hash.specs.Hash.{start}
 use Rattle.hash.specs.States.{begun, stateOf, filled}
 use Rattle.hash.proofs.begin.Statement.{statement}

@@ -3,8 +3,8 @@ use mathlib.Core.List.{List}
 use Prim.Native.Nat.{ℕ}
 use lib.ListN.{drop}
 use Rattle.lps.specs.Vectors.{bytes}
-use Rattle.hash.specs.Sums.{vec, lowest}
-use Rattle.hash.specs.Rounds.{g}
+use Rattle.rounds.specs.Sums.{vec, lowest}
+use Rattle.rounds.specs.Rounds.{g}
 use Rattle.hash.specs.Hash.{closed}
 use borrow.Author.Needs.{needs}
 use Rattle.hash.proofs.close.Statement.{statement}

@@ -7,11 +7,11 @@ use native.Mathlib.Omega.{arith}
 use lib.ListN.{getD, drop, length}
 use lib.Seq.{drop-cons}
 use Rattle.lps.specs.Vectors.{X, LPS}
-use Rattle.hash.specs.Constants.{C}
-use Rattle.hash.specs.Sums.{vec}
-use Rattle.hash.specs.Rounds.{rounds}
+use Rattle.rounds.specs.Constants.{C}
+use Rattle.rounds.specs.Sums.{vec}
+use Rattle.rounds.specs.Rounds.{rounds}
 
-count : length C ≡ 12
+pub count : length C ≡ 12
 unfolding C
 count = refl
 

@@ -2,12 +2,12 @@ use mathlib.Core.Path.{_≡_, refl, _∙_}
 use Prim.Native.Nat.{_≤_, _-_}
 use native.Mathlib.Omega.{arith}
 use lib.ListN.{drop}
-use Rattle.hash.specs.Constants.{C}
-use Rattle.hash.specs.Rounds.{rounds, E}
-use Rattle.hash.proofs.RoundLaws.{round-turn, round-end}
+use Rattle.rounds.specs.Constants.{C}
+use Rattle.rounds.specs.Rounds.{rounds, E}
+use Rattle.rounds.proofs.RoundLaws.{round-turn, round-end}
 use borrow.Author.Needs.{needs}
-use Rattle.hash.proofs.encrypt.Statement.{statement}
-use Rattle.hash.proofs.encrypt.Tie as tie
+use Rattle.rounds.proofs.encrypt.Statement.{statement}
+use Rattle.rounds.proofs.encrypt.Tie as tie
 
 abbrev Inv-loop : tie.InvT-loop
 Inv-loop key₀ s₀ i₀ key s i = (i ≤ 12) × (rounds (drop i C) key s ≡ rounds C key₀ s₀)

@@ -6,16 +6,20 @@ use native.Mathlib.Numerals.{add-one}
 use native.Mathlib.Omega.{arith}
 use lib.ListN.{length, drop, getD}
 use lib.Seq.{drop-cons}
-use Rattle.hash.specs.Sums.{int, lowest, vec, _⊞_}
+use Rattle.rounds.specs.Sums.{int, lowest, vec, _⊞_}
 
 length-lowest : (k n : ℕ) → length (lowest k n) ≡ k
 unfolding lowest
 length-lowest zero n = refl
 length-lowest (suc k) n = ap suc (length-lowest k (n / 2 ^ 64))
 
+pub length-vec : (n : ℕ) → length (vec n) ≡ 8
+unfolding vec
+length-vec n = length-lowest 8 n
+
 pub length-sum : (a b : List ℕ) → length (a ⊞ b) ≡ 8
-unfolding _⊞_ vec
-length-sum a b = length-lowest 8 (int a + int b)
+unfolding _⊞_
+length-sum a b = length-vec (int a + int b)
 
 -- the rests of a and b, and the carry c, give the rest of s
 abbrev pub Rest : List ℕ → List ℕ → List ℕ → ℕ → ℕ → Type 0

@@ -5,11 +5,11 @@ use native.Mathlib.Omega.{arith}
 use lib.ListN.{length, set, replicate}
 use lib.Seq.{paste, paste-zero}
 use Rattle.octets.proofs.Parts.{made-turn, made-end}
-use Rattle.hash.specs.Sums.{_⊞_}
-use Rattle.hash.proofs.SumLaws.{Rest, length-sum, sum-start, sum-word, sum-turn}
+use Rattle.rounds.specs.Sums.{_⊞_}
+use Rattle.rounds.proofs.SumLaws.{Rest, length-sum, sum-start, sum-word, sum-turn}
 use borrow.Author.Needs.{needs}
-use Rattle.hash.proofs.add.Statement.{statement}
-use Rattle.hash.proofs.add.Tie as tie
+use Rattle.rounds.proofs.add.Statement.{statement}
+use Rattle.rounds.proofs.add.Tie as tie
 
 abbrev Inv-loop : tie.InvT-loop
 Inv-loop a b r₀ carry₀ i₀ r carry i = (i ≤ 8) × (carry ≤ 1) × (r ≡ paste r₀ 0 (a ⊞ b) i) × Rest a b (a ⊞ b) i carry

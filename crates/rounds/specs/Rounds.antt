@@ -2,8 +2,8 @@
 use mathlib.Core.List.{List, [], _∷_}
 use Prim.Native.Nat.{ℕ}
 use Rattle.lps.specs.Vectors.{X, LPS}
-use Rattle.hash.specs.Constants.{C}
-use Rattle.hash.specs.Sums.{vec}
+use Rattle.rounds.specs.Constants.{C}
+use Rattle.rounds.specs.Sums.{vec}
 
 -- a round for each constant, K_(i+1) = LPS(K_i ⊕ C_i), and the last key
 unfoldable pub rounds : List ℕ → List ℕ → List ℕ → List ℕ

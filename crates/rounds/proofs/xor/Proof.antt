@@ -1,7 +1,7 @@
 use Rattle.lps.specs.Vectors.{X}
 use borrow.Author.Needs.{needs}
-use Rattle.hash.proofs.xor.Statement.{statement}
-use Rattle.hash.proofs.xor.Tie as tie
+use Rattle.rounds.proofs.xor.Statement.{statement}
+use Rattle.rounds.proofs.xor.Tie as tie
 
 returns : tie.Need-returns
 unfolding X

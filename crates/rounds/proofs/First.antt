@@ -1,0 +1,147 @@
+-- The round keys of the first block, each computed from the one before. Assumes nothing.
+use mathlib.Core.Path.{_≡_, refl, sym, ap, _∙_}
+use mathlib.Core.List.{List, [], _∷_, _++_}
+use Prim.Native.Nat.{ℕ}
+use lib.Bits.{bitXor}
+use lib.ListN.{length, drop, replicate}
+use Rattle.octets.specs.Numbers.{le, leOctets}
+use Rattle.tables.specs.Tables.{pi, A}
+use Rattle.tables.specs.Matrix.{lin, l}
+use Rattle.lps.specs.Vectors.{bytes, words, tau, X, S, P, L, LPS}
+use Rattle.rounds.specs.Constants.{C}
+use Rattle.rounds.specs.Sums.{vec, lowest}
+use Rattle.rounds.specs.Keys.{schedule, keysOf}
+
+abbrev K1 : List ℕ
+K1 =
+    0x23c5ee40b07b5f15 ∷ 0x23c5ee40b07b5f15 ∷ 0x23c5ee40b07b5f15 ∷ 0x23c5ee40b07b5f15 ∷
+    0x23c5ee40b07b5f15 ∷ 0x23c5ee40b07b5f15 ∷ 0x23c5ee40b07b5f15 ∷ 0x23c5ee40b07b5f15 ∷ []
+
+abbrev K2 : List ℕ
+K2 =
+    0x0c7d0cc39d4a5eb9 ∷ 0xe611d68c8401bfcd ∷ 0x9c7e6b5eea633511 ∷ 0xda22de93a66a66b1 ∷
+    0x451cfab6a904a549 ∷ 0x349769df88be26bf ∷ 0x3bd6cb8233694cea ∷ 0x18ee8f3176b2ebea ∷ []
+
+abbrev K3 : List ℕ
+K3 =
+    0xfd74af4101805f2d ∷ 0xc7f68e73ba26fb00 ∷ 0x915000cd674be12c ∷ 0xce0913f1253e7757 ∷
+    0x940bba1a519e9d1f ∷ 0xbf27dee21164c5e3 ∷ 0x57aec8ce91e7fd46 ∷ 0xaaa4cf31a2659591 ∷ []
+
+abbrev K4 : List ℕ
+K4 =
+    0x8200311920839286 ∷ 0x2067fb5ddd6ac156 ∷ 0x98d01ef0602b0e33 ∷ 0xcd801ea9dd743a0d ∷
+    0xa54228aeca9c4585 ∷ 0xa5329a2236747bf8 ∷ 0x0235e2afadded326 ∷ 0x61fe0a65cc177af5 ∷ []
+
+abbrev K5 : List ℕ
+K5 =
+    0x99a5d5309fe73d5a ∷ 0xd595394cc199bf69 ∷ 0x0a546acd63d960ba ∷ 0x169bd540af75e161 ∷
+    0xe4693c86c06c7d4e ∷ 0xe2934314aa2ecb3e ∷ 0x1fd5abb75fbf26a8 ∷ 0x9983685f4fd3636f ∷ []
+
+abbrev K6 : List ℕ
+K6 =
+    0xbe297c13c0f7a156 ∷ 0xaf98c83c22cdb0e2 ∷ 0xd170990a86602088 ∷ 0x62615d907eb0551a ∷
+    0x922994e52820ffea ∷ 0xf1e735d613946e32 ∷ 0x156c9a7fbcc6b8fd ∷ 0xf05772ae2ce7f025 ∷ []
+
+abbrev K7 : List ℕ
+K7 =
+    0xfcf03d9b81cfbb8d ∷ 0x51a9b18cfc8e4098 ∷ 0xb7b005a43e5959a6 ∷ 0xc89eb6b35167f159 ∷
+    0x0b2b8d0e6be2b5ac ∷ 0x7453e9c321197433 ∷ 0x46b3e7688829fbb7 ∷ 0x5ad144c362546e4e ∷ []
+
+abbrev K8 : List ℕ
+K8 =
+    0xc1f191a539016daa ∷ 0xb0a0ad5790dfb73f ∷ 0x8d6c746adcd5426f ∷ 0x018287e5a9f509c7 ∷
+    0x83332fe0b8efdac9 ∷ 0x518c638ed530122a ∷ 0xb64fa840b934352b ∷ 0x6a6cec9a1ba20a8d ∷ []
+
+abbrev K9 : List ℕ
+K9 =
+    0x2b8fb6a8f5dd0409 ∷ 0x367d5f9437443538 ∷ 0xd82e0e2069fc49ed ∷ 0xbb4c9d580a224e9c ∷
+    0xe35fa35fee9dd8bd ∷ 0xf351531f948f0fc5 ∷ 0x8a8d6643f705bd51 ∷ 0x99217036737aa9b3 ∷ []
+
+abbrev K10 : List ℕ
+K10 =
+    0xd74fe5393ccb05d2 ∷ 0xca8fdf678fcb337b ∷ 0x76f83022f2526791 ∷ 0xf0b35d80a7317a7f ∷
+    0xd703c35d2e62aeaf ∷ 0x9a7630e8bfd6c3fe ∷ 0xe69288d8ec9e9dda ∷ 0x906763c0fc89fa1a ∷ []
+
+abbrev K11 : List ℕ
+K11 =
+    0x3d695c0bfc89add5 ∷ 0x159c8c624c3fe6e1 ∷ 0x52ce34af272f96d3 ∷ 0xd6a1dae9a6dc6ddf ∷
+    0xbff3c29d38dadb6e ∷ 0x4e2ae3eee68991bb ∷ 0x04a5c8e03ee43385 ∷ 0x88ce996c63618e64 ∷ []
+
+abbrev K12 : List ℕ
+K12 =
+    0x1d7b5a0f7655f2db ∷ 0xe75a49c68199112a ∷ 0x628e8365d8798477 ∷ 0xb55f30c79982ca45 ∷
+    0x76b978fccaa32f38 ∷ 0x506aa168cf829157 ∷ 0x3eec550100576f3a ∷ 0x3e0a281ea9bd4606 ∷ []
+
+abbrev K13 : List ℕ
+K13 =
+    0xfcf9eca06500bf03 ∷ 0x0ef9f5e03c907fa1 ∷ 0x19ff433e76ef6adb ∷ 0x14b21cffc51e3fa3 ∷
+    0x3f6cbab54ed18b83 ∷ 0x62c848422b6a92f9 ∷ 0xe432fbae18672122 ∷ 0xf0b273409eb31aeb ∷ []
+
+unfoldable pub first : List ℕ
+first = K1 ++ K2 ++ K3 ++ K4 ++ K5 ++ K6 ++ K7 ++ K8 ++ K9 ++ K10 ++ K11 ++ K12 ++ K13
+
+first-key : LPS (X (replicate 8 0x0101010101010101) (replicate 8 0)) ≡ K1
+unfolding LPS L words P S bytes X le leOctets l lin A pi tau
+first-key = refl
+
+key1 : LPS (X K1 (vec 0xb1085bda1ecadae9ebcb2f81c0657c1f2f6a76432e45d016714eb88d7585c4fc4b7ce09192676901a2422a08a460d31505767436cc744d23dd806559f2a64507)) ≡ K2
+unfolding LPS L words P S bytes X le leOctets l lin A pi tau C vec lowest
+key1 = refl
+
+key2 : LPS (X K2 (vec 0x6fa3b58aa99d2f1a4fe39d460f70b5d7f3feea720a232b9861d55e0f16b501319ab5176b12d699585cb561c2db0aa7ca55dda21bd7cbcd56e679047021b19bb7)) ≡ K3
+unfolding LPS L words P S bytes X le leOctets l lin A pi tau C vec lowest
+key2 = refl
+
+key3 : LPS (X K3 (vec 0xf574dcac2bce2fc70a39fc286a3d843506f15e5f529c1f8bf2ea7514b1297b7bd3e20fe490359eb1c1c93a376062db09c2b6f443867adb31991e96f50aba0ab2)) ≡ K4
+unfolding LPS L words P S bytes X le leOctets l lin A pi tau C vec lowest
+key3 = refl
+
+key4 : LPS (X K4 (vec 0xef1fdfb3e81566d2f948e1a05d71e4dd488e857e335c3c7d9d721cad685e353fa9d72c82ed03d675d8b71333935203be3453eaa193e837f1220cbebc84e3d12e)) ≡ K5
+unfolding LPS L words P S bytes X le leOctets l lin A pi tau C vec lowest
+key4 = refl
+
+key5 : LPS (X K5 (vec 0x4bea6bacad4747999a3f410c6ca923637f151c1f1686104a359e35d7800fffbdbfcd1747253af5a3dfff00b723271a167a56a27ea9ea63f5601758fd7c6cfe57)) ≡ K6
+unfolding LPS L words P S bytes X le leOctets l lin A pi tau C vec lowest
+key5 = refl
+
+key6 : LPS (X K6 (vec 0xae4faeae1d3ad3d96fa4c33b7a3039c02d66c4f95142a46c187f9ab49af08ec6cffaa6b71c9ab7b40af21f66c2bec6b6bf71c57236904f35fa68407a46647d6e)) ≡ K7
+unfolding LPS L words P S bytes X le leOctets l lin A pi tau C vec lowest
+key6 = refl
+
+key7 : LPS (X K7 (vec 0xf4c70e16eeaac5ec51ac86febf240954399ec6c7e6bf87c9d3473e33197a93c90992abc52d822c3706476983284a05043517454ca23c4af38886564d3a14d493)) ≡ K8
+unfolding LPS L words P S bytes X le leOctets l lin A pi tau C vec lowest
+key7 = refl
+
+key8 : LPS (X K8 (vec 0x9b1f5b424d93c9a703e7aa020c6e41414eb7f8719c36de1e89b4443b4ddbc49af4892bcb929b069069d18d2bd1a5c42f36acc2355951a8d9a47f0dd4bf02e71e)) ≡ K9
+unfolding LPS L words P S bytes X le leOctets l lin A pi tau C vec lowest
+key8 = refl
+
+key9 : LPS (X K9 (vec 0x378f5a541631229b944c9ad8ec165fde3a7d3a1b258942243cd955b7e00d0984800a440bdbb2ceb17b2b8a9aa6079c540e38dc92cb1f2a607261445183235adb)) ≡ K10
+unfolding LPS L words P S bytes X le leOctets l lin A pi tau C vec lowest
+key9 = refl
+
+key10 : LPS (X K10 (vec 0xabbedea680056f52382ae548b2e4f3f38941e71cff8a78db1fffe18a1b3361039fe76702af69334b7a1e6c303b7652f43698fad1153bb6c374b4c7fb98459ced)) ≡ K11
+unfolding LPS L words P S bytes X le leOctets l lin A pi tau C vec lowest
+key10 = refl
+
+key11 : LPS (X K11 (vec 0x7bcd9ed0efc889fb3002c6cd635afe94d8fa6bbbebab076120018021148466798a1d71efea48b9caefbacd1d7d476e98dea2594ac06fd85d6bcaa4cd81f32d1b)) ≡ K12
+unfolding LPS L words P S bytes X le leOctets l lin A pi tau C vec lowest
+key11 = refl
+
+key12 : LPS (X K12 (vec 0x378ee767f11631bad21380b00449b17acda43c32bcdf1d77f82012d430219f9b5d80ef9d1891cc86e71da4aa88e12852faf417d5d9b21b9948bc924af11bd720)) ≡ K13
+unfolding LPS L words P S bytes X le leOctets l lin A pi tau C vec lowest
+key12 = refl
+
+step : (c : ℕ) (cs k : List ℕ) {next rest : List ℕ} → LPS (X k (vec c)) ≡ next → schedule cs next ≡ rest → schedule (c ∷ cs) k ≡ k ++ rest
+unfolding schedule
+step c cs k e r = ap (λ (x : List ℕ). k ++ schedule cs x) e ∙ ap (λ (x : List ℕ). k ++ x) r
+
+pub first-right : keysOf (replicate 8 0) (replicate 8 0x0101010101010101) ≡ first
+unfolding keysOf C schedule first
+first-right =
+    ap (schedule C) first-key
+    ∙ step _ (drop 1 C) K1 key1 (step _ (drop 2 C) K2 key2 (step _ (drop 3 C) K3 key3 (step _ (drop 4 C) K4 key4 (step _ (drop 5 C) K5 key5 (step _ (drop 6 C) K6 key6 (step _ (drop 7 C) K7 key7 (step _ (drop 8 C) K8 key8 (step _ (drop 9 C) K9 key9 (step _ (drop 10 C) K10 key10 (step _ (drop 11 C) K11 key11 (step _ (drop 12 C) K12 key12 refl)))))))))))
+
+pub length-first : length (keysOf (replicate 8 0) (replicate 8 0x0101010101010101)) ≡ 104
+unfolding first
+length-first = ap length first-right

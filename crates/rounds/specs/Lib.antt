@@ -1,0 +1,4 @@
+pub mod Constants
+pub mod Sums
+pub mod Rounds
+pub mod Keys

@@ -136,12 +136,16 @@ step : (c : ℕ) (cs k : List ℕ) {next rest : List ℕ} → LPS (X k (vec c)) 
 unfolding schedule
 step c cs k e r = ap (λ (x : List ℕ). k ++ schedule cs x) e ∙ ap (λ (x : List ℕ). k ++ x) r
 
-pub first-right : keysOf (replicate 8 0) (replicate 8 0x0101010101010101) ≡ first
+-- the round keys of the first block
+abbrev pub Keys : List ℕ
+Keys = keysOf (replicate 8 0) (replicate 8 0x0101010101010101)
+
+pub first-right : Keys ≡ first
 unfolding keysOf C schedule first
 first-right =
     ap (schedule C) first-key
     ∙ step _ (drop 1 C) K1 key1 (step _ (drop 2 C) K2 key2 (step _ (drop 3 C) K3 key3 (step _ (drop 4 C) K4 key4 (step _ (drop 5 C) K5 key5 (step _ (drop 6 C) K6 key6 (step _ (drop 7 C) K7 key7 (step _ (drop 8 C) K8 key8 (step _ (drop 9 C) K9 key9 (step _ (drop 10 C) K10 key10 (step _ (drop 11 C) K11 key11 (step _ (drop 12 C) K12 key12 refl)))))))))))
 
-pub length-first : length (keysOf (replicate 8 0) (replicate 8 0x0101010101010101)) ≡ 104
+pub length-first : length Keys ≡ 104
 unfolding first
 length-first = ap length first-right

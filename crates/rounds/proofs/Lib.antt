@@ -1,4 +1,3 @@
 pub mod SumLaws
-pub mod RoundLaws
 pub mod KeyLaws
 pub mod First

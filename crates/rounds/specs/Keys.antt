@@ -15,11 +15,21 @@ schedule (c ∷ cs) k = k ++ schedule cs (LPS (X k (vec c)))
 unfoldable pub keysOf : List ℕ → List ℕ → List ℕ
 keysOf n h = schedule C (LPS (X h n))
 
--- i rounds by the first i of the keys, and the key after them; X takes the first eight words
-unfoldable pub keyed : ℕ → List ℕ → List ℕ → List ℕ
-keyed zero ks m = X ks m
-keyed (suc i) ks m = keyed i (drop 8 ks) (LPS (X ks m))
+-- n rounds from s on, each by the next key of ks; X takes the first eight words
+unfoldable pub through : ℕ → List ℕ → List ℕ → List ℕ
+through zero ks s = s
+through (suc n) ks s = through n (drop 8 ks) (LPS (X ks s))
 
 -- g_N(h, m) by its round keys
 unfoldable pub gBy : List ℕ → List ℕ → List ℕ → List ℕ
-gBy ks h m = X (X (keyed 12 ks m) h) m
+gBy ks h m = X (X (X (drop 96 ks) (through 12 ks m)) h) m
+
+-- the same rounds, with what each gives in the place of its key
+unfoldable pub ran : ℕ → List ℕ → List ℕ → List ℕ
+ran zero ks s = ks
+ran (suc n) ks s = LPS (X ks s) ++ ran n (drop 8 ks) (LPS (X ks s))
+
+-- numbers as vectors, one after the other
+unfoldable pub flat : List ℕ → List ℕ
+flat [] = []
+flat (c ∷ cs) = vec c ++ flat cs

@@ -1,14 +1,15 @@
 // The round functions of GOST R 34.11-2012 (RFC 6986, section 8) and its sums modulo 2 to the 512, on vectors of eight words, lowest first.
 ghost use mathlib.Core.Path.{_≡_};
 ghost use mathlib.Core.Bool.{true};
+ghost use mathlib.Core.List.{_++_};
 ghost use Prim.Native.Nat.{_+_, _*_, _^_, _<_, _≤_};
-ghost use lib.ListN.{getD, replicate};
+ghost use lib.ListN.{getD, length, replicate, take, drop};
 ghost use lib.Seq.{paste};
 ghost use Rattle.lps.specs.Vectors.{each, X};
 ghost use Rattle.rounds.specs.Constants.{C};
 ghost use Rattle.rounds.specs.Sums.{vec, _⊞_};
-ghost use Rattle.rounds.specs.Rounds.{E, g};
-ghost use Rattle.rounds.specs.Keys.{keysOf, keyed, gBy};
+ghost use Rattle.rounds.specs.Rounds.{g};
+ghost use Rattle.rounds.specs.Keys.{flat, through, ran, keysOf, gBy};
 
 mod constants;
 
@@ -45,69 +46,108 @@ fn constant(i: usize) -> [u64; 8]
     r
 }
 
-// E(k, m): twelve rounds, the key schedule beside them.
-fn encrypt(k: [u64; 8], m: [u64; 8]) -> [u64; 8]
-    ensures { λ r. ⌜ r ≡ E k m ⌝ }
+// The round key K_(i+1) of the first block.
+fn first_key(i: usize) -> [u64; 8]
+    requires { ⌜ i < 13 ⌝ }
+    ensures { λ r. ⌜ r ≡ take 8 (drop (8 * i) (keysOf (replicate 8 0) (replicate 8 0x0101010101010101))) ⌝ }
 {
-    let mut key = k;
-    let mut s = m;
+    let mut r = [0; 8];
+    let mut j = 0;
+    while j < 8 {
+        r[j] = first_word(8 * i + j);
+        j += 1;
+    }
+    r
+}
+
+// The vector from word p on.
+fn at(b: &[u64], p: usize) -> [u64; 8]
+    requires { ⌜ p + 8 ≤ length (now b) ⌝ }
+    ensures { λ r. ⌜ r ≡ each (λ j. getD (now (b .entry)) (p + j) 0) ⌝ }
+{
+    [
+        b[p],
+        b[p + 1],
+        b[p + 2],
+        b[p + 3],
+        b[p + 4],
+        b[p + 5],
+        b[p + 6],
+        b[p + 7],
+    ]
+}
+
+// A vector from word p on.
+fn put(b: &mut [u64], p: usize, v: [u64; 8])
+    requires { ⌜ p + 8 ≤ length (now b) ⌝ }
+    ensures { λ _. ⌜ now (b .exit) ≡ paste (now (b .entry)) p v 8 ⌝ }
+{
+    let mut j = 0;
+    while j < 8 {
+        b[p + j] = v[j];
+        j += 1;
+    }
+}
+
+// n rounds from s on, each by its vector of b, which what it gives replaces. The one call of `lps`: so it stands here in place.
+fn run(b: &mut [u64], s: [u64; 8], n: usize) -> [u64; 8]
+    requires { ⌜ (length (now b) ≡ 104) × (n ≤ 13) ⌝ }
+    ensures { λ r. ⌜ (r ≡ through n (now (b .entry)) s) × (now (b .exit) ≡ ran n (now (b .entry)) s) ⌝ }
+{
+    let mut t = s;
     let mut i = 0;
-    while i < 12 {
-        s = lps(xor(key, s));
-        key = lps(xor(key, constant(i)));
+    while i < n {
+        t = lps(xor(at(b, 8 * i), t));
+        put(b, 8 * i, t);
         i += 1;
     }
-    xor(key, s)
+    t
+}
+
+// n, and the constants after it.
+fn constants_after(n: [u64; 8]) -> [u64; 104]
+    ensures { λ r. ⌜ r ≡ n ++ flat C ⌝ }
+{
+    let mut b = [0; 104];
+    put(&mut b, 0, n);
+    let mut i = 0;
+    while i < 12 {
+        put(&mut b, 8 * i + 8, constant(i));
+        i += 1;
+    }
+    b
 }
 
 // The round keys of the first block.
 fn first_keys() -> [u64; 104]
     ensures { λ r. ⌜ r ≡ keysOf (replicate 8 0) (replicate 8 0x0101010101010101) ⌝ }
 {
-    let mut r = [0; 104];
+    let mut b = [0; 104];
     let mut i = 0;
-    while i < 104 {
-        r[i] = first_word(i);
+    while i < 13 {
+        put(&mut b, 8 * i, first_key(i));
         i += 1;
     }
-    r
+    b
 }
 
-// The key from word p on.
-fn key_at(keys: &[u64; 104], p: usize) -> [u64; 8]
-    requires { ⌜ p + 8 ≤ 104 ⌝ }
-    ensures { λ r. ⌜ r ≡ each (λ j. getD (now (keys .entry)) (p + j) 0) ⌝ }
+// The round keys of g_n(h, m), for any m.
+pub fn round_keys(n: [u64; 8], h: [u64; 8]) -> [u64; 104]
+    ensures { λ r. ⌜ r ≡ keysOf n h ⌝ }
 {
-    [
-        keys[p],
-        keys[p + 1],
-        keys[p + 2],
-        keys[p + 3],
-        keys[p + 4],
-        keys[p + 5],
-        keys[p + 6],
-        keys[p + 7],
-    ]
-}
-
-// E by its round keys.
-fn encrypt_with(keys: &[u64; 104], m: [u64; 8]) -> [u64; 8]
-    ensures { λ r. ⌜ r ≡ keyed 12 (now (keys .entry)) m ⌝ }
-{
-    let mut s = m;
-    let mut i = 0;
-    while i < 12 {
-        s = lps(xor(key_at(keys, 8 * i), s));
-        i += 1;
-    }
-    xor(key_at(keys, 96), s)
+    let mut b = constants_after(n);
+    run(&mut b, h, 13);
+    b
 }
 
 // g_n(h, m) by its round keys.
-pub fn compress_with(keys: &[u64; 104], h: [u64; 8], m: [u64; 8]) -> [u64; 8]
-    ensures { λ r. ⌜ r ≡ gBy (now (keys .entry)) h m ⌝ }
+pub fn compress_with(keys: [u64; 104], h: [u64; 8], m: [u64; 8]) -> [u64; 8]
+    ensures { λ r. ⌜ r ≡ gBy keys h m ⌝ }
 {
-    xor(xor(encrypt_with(keys, m), h), m)
+    let mut b = keys;
+    let last = at(&b, 96);
+    let s = run(&mut b, m, 12);
+    xor(xor(xor(last, s), h), m)
 }
 
 // Yes only if two vectors are equal.
@@ -129,39 +169,9 @@ pub fn compress(n: [u64; 8], h: [u64; 8], m: [u64; 8]) -> [u64; 8]
     ensures { λ r. ⌜ r ≡ g n h m ⌝ }
 {
     if alike(n, [0; 8]) && alike(h, [0x0101010101010101; 8]) {
-        return compress_with(&first_keys(), h, m);
+        return compress_with(first_keys(), h, m);
     }
-    xor(xor(encrypt(lps(xor(h, n)), m), h), m)
-}
-
-// keys, with a key from word p on.
-fn put_key(keys: [u64; 104], p: usize, key: [u64; 8]) -> [u64; 104]
-    requires { ⌜ p + 8 ≤ 104 ⌝ }
-    ensures { λ r. ⌜ r ≡ paste keys p key 8 ⌝ }
-{
-    let mut out = keys;
-    let mut i = 0;
-    while i < 8 {
-        out[p + i] = key[i];
-        i += 1;
-    }
-    out
-}
-
-// The round keys of g_n(h, m), for many m.
-pub fn round_keys(n: [u64; 8], h: [u64; 8]) -> [u64; 104]
-    ensures { λ r. ⌜ r ≡ keysOf n h ⌝ }
-{
-    let mut keys = [0; 104];
-    let mut key = lps(xor(h, n));
-    let mut i = 0;
-    while i < 12 {
-        let longer = put_key(keys, 8 * i, key);
-        keys = longer;
-        key = lps(xor(key, constant(i)));
-        i += 1;
-    }
-    put_key(keys, 96, key)
+    compress_with(round_keys(n, h), h, m)
 }
 
 struct Sum {

@@ -1,43 +1,46 @@
-use mathlib.Core.Path.{_≡_, refl, ap, _∙_}
-use mathlib.Core.List.{List}
-use Prim.Native.Nat.{ℕ, _-_, _<_, _≤_}
+use mathlib.Core.Path.{_≡_, refl, sym, ap, ap₂, _∙_}
+use mathlib.Core.List.{List, [], _++_}
+use Prim.Native.Nat.{ℕ, _+_, _-_, _*_, _<_, _≤_}
 use native.Mathlib.Omega.{arith}
-use lib.ListN.{length, set, replicate}
-use lib.Seq.{paste, paste-zero}
-use Rattle.octets.proofs.Parts.{made-turn, made-end}
-use Rattle.rounds.specs.Keys.{keysOf}
-use Rattle.rounds.proofs.First.{length-first}
+use lib.ListN.{length, take, drop, length-drop, drop-of-length-le}
+use lib.Seq.{paste, length-take-le}
+use Rattle.rounds.proofs.First.{Keys, length-first}
+use Rattle.rounds.proofs.KeyLaws.{Filled, filled-turn, filled-end, eight-turn}
 use borrow.Author.Needs.{needs}
 use Rattle.rounds.proofs.first_keys.Statement.{statement}
 use Rattle.rounds.proofs.first_keys.Tie as tie
 
-abbrev T : List ℕ
-T = keysOf (replicate 8 0) (replicate 8 0x0101010101010101)
-
 abbrev Inv-loop : tie.InvT-loop
-Inv-loop r₀ i₀ r i = (i ≤ 104) × (r ≡ paste r₀ 0 T i)
+Inv-loop b₀ i₀ b i = (i ≤ 13) × Filled Keys (8 * i) b (drop (8 * i) Keys)
 
 abbrev μ-loop : tie.MeasureT-loop
-μ-loop r₀ i₀ r i = 104 - i
+μ-loop b₀ i₀ b i = 13 - i
 
 loop-holds : tie.Need-loop-holds Inv-loop μ-loop
-loop-holds c = (omega arith, paste-zero _ 0 T)
+loop-holds c = (omega arith, (refl, refl))
 
 loop-again : tie.Need-loop-again Inv-loop μ-loop
 loop-again c =
-    let l = c .before .before .loop in
-    let h : l .i < 104 = search needs in
-    let n : length T ≡ 104 = length-first in (
-      omega arith,
-      ap (λ (s : List ℕ). set s (l .i) (c .first-word .result)) (l .inv .1)
-          ∙ made-turn (replicate 104 0) T (l .i) (c .first-word .result) h (omega arith) (c .first-word .ensures),
-    )
+    let l = c .before .before .before .before .before .loop in
+    let p = 8 * l .i in
+    let n : length Keys ≡ 104 = length-first in
+    let h : l .i < 13 = search needs in
+    let f = l .inv .1 in
+    let v = take 8 (drop p Keys) in
+    let t =
+    filled-turn Keys p (l .b) v (drop (p + 8) Keys) (omega arith) (length-take-le 8 (drop p Keys) (simp length-drop (omega arith)))
+    (f .0, ap (λ (x : List ℕ). take p (l .b) ++ x) (sym (eight-turn p Keys)) ∙ f .1) in
+    let q = c .before .put .ensures ∙ ap (λ (x : List ℕ). paste (l .b) p x 8) (c .before .before .first-key .ensures) in
+    let e : 8 * (l .i + 1) ≡ p + 8 = omega arith in
+    (omega arith, (ap length q ∙ t .0, ap₂ (λ (k : ℕ) (x : List ℕ). take k x ++ drop k Keys) e q ∙ t .1))
 
 returns : tie.Need-returns Inv-loop μ-loop
 returns c =
     let l = c .before .loop in
-    let e : l .i ≡ 104 = omega arith in
-    l .inv .1 ∙ ap (paste (replicate 104 0) 0 T) e ∙ made-end (replicate 104 0) T 104 refl length-first
+    let f = l .inv .1 in
+    let e : 104 ≡ 8 * l .i = omega arith in
+    let z : [] ≡ drop 104 Keys = sym (drop-of-length-le Keys {i = 104} (omega (arith, length-first))) in
+    filled-end Keys (l .b) (f .0, ap (λ (x : List ℕ). take 104 (l .b) ++ x) z ∙ ap (λ (k : ℕ). take k (l .b) ++ drop k Keys) e ∙ f .1)
 
 pub first-keys-spec : {M : Type 1} → statement M
 first-keys-spec =
@@ -46,9 +49,10 @@ first-keys-spec =
     Inv-loop
     μ-loop
     loop-holds
+    (λ c. search needs)
+    (λ c. search needs)
     (λ c κs. search needs)
-    (λ c. search needs)
-    (λ c. search needs)
+    (λ c κs. search needs)
     (λ c. search needs)
     (λ c. search needs)
     loop-again

@@ -1,15 +1,20 @@
 -- A started key gives what the key gives; and what the entry points answer, test by test. Assumes nothing.
-use mathlib.Core.Path.{_≡_, sym, ap, _∙_}
+use mathlib.Core.Path.{_≡_, sym, ap, ap₂, _∙_}
 use mathlib.Core.Bool.{and-false}
 use mathlib.Core.List.{List, [], _∷_, _++_}
 use Prim.Native.Nat.{ℕ}
 use borrow.Author.Tests.{eq-eqb, ne-eqb}
 use lib.ListN.{length, getD}
-use Rattle.octets.proofs.Parts.{elements-all}
+use Rattle.octets.proofs.Parts.{elements, elements-all}
 use Rattle.hash.specs.declared.State.{State}
 use Rattle.hash.specs.Hash.{hash256}
 use Rattle.hash.specs.States.{begun, fed, ended}
+use Rattle.hash.specs.Ahead.{aheadOf, endedAhead}
 use Rattle.hash.proofs.Laws.{fed-fed, ended-fed}
+use Rattle.hash.proofs.AheadLaws.{ended-ahead, fed-block}
+use Rattle.derive.specs.declared.Kept.{Kept}
+use Rattle.derive.specs.Kept.{kept, derivedKept}
+use Rattle.derive.proofs.PadLaws.{length-ipad, length-opad}
 use Rattle.derive.specs.declared.Started.{Started}
 use Rattle.derive.specs.Hmac.{ipad, opad, hmac}
 use Rattle.derive.specs.Derivation.{string, derived, cardLabel}
@@ -41,6 +46,28 @@ derived-parts k label seed h =
     ap (λ (s : State). ended (fed (k .outer) (ended s)))
     (ap (λ (s : State). fed s (0x01 ∷ 0x00 ∷ [])) (fed-fed (k .inner) head seed) ∙ fed-fed (k .inner) (head ++ seed) (0x01 ∷ 0x00 ∷ []))
     ∙ ap (λ (l : List ℕ). ended (fed (k .outer) (ended (fed (k .inner) (0x01 ∷ (l ++ 0x00 ∷ (seed ++ 0x01 ∷ 0x00 ∷ []))))))) (sym (elements-all label 4 h))
+
+-- a key kept gives what the key gives
+pub derived-kept : (key label seed : List ℕ) → length key ≡ 32 → derivedKept (kept key) label seed ≡ derived key label seed
+unfolding derivedKept kept started derived hmac
+derived-kept key label seed e =
+    let i : State = fed begun (ipad key) in
+    let o : State = fed begun (opad key) in
+    ended-ahead (o .core) (endedAhead (aheadOf (i .core)) (string label seed))
+    ∙ ap₂ (λ (s : State) (x : List ℕ). ended (fed s x)) (fed-block (opad key) (length-opad key e))
+    (ended-ahead (i .core) (string label seed)
+    ∙ ap (λ (s : State). ended (fed s (string label seed))) (fed-block (ipad key) (length-ipad key e))
+    ∙ two-parts (ipad key) (string label seed))
+    ∙ two-parts (opad key) (hash256 (ipad key ++ string label seed))
+
+-- the string as the code has it
+pub kept-string : (k : Kept) (label seed : List ℕ) → length label ≡ 4 → length seed ≡ 8
+    → endedAhead (k .outer) (endedAhead (k .inner) (0x01 ∷ elements label 0 0 4 ++ 0x00 ∷ elements seed 0 0 8 ++ 0x01 ∷ 0x00 ∷ []))
+    ≡ derivedKept k label seed
+unfolding derivedKept string
+kept-string k label seed h l =
+    ap₂ (λ (x y : List ℕ). endedAhead (k .outer) (endedAhead (k .inner) (0x01 ∷ (x ++ 0x00 ∷ (y ++ 0x01 ∷ 0x00 ∷ [])))))
+    (sym (elements-all label 4 h)) (sym (elements-all seed 8 l))
 
 module _ (key m : List ℕ) where
   pub hmac-no-key : (length key ≡ 32 → ⊥) → noKey 1 ≡ maced key m

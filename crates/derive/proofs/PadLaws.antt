@@ -7,11 +7,15 @@ use lib.Bits.{bitXor}
 use lib.ListN.{length, take, getD, set, replicate, length-append, length-map, length-replicate, List·getD-append}
 use lib.Seq.{paste, take-at}
 use Rattle.octets.proofs.Parts.{getD-map, made-turn}
-use Rattle.derive.specs.Hmac.{padded}
+use Rattle.derive.specs.Hmac.{padded, ipad, opad}
 
 module _ (p : ℕ) (key : List ℕ) (e : length key ≡ 32) where
   long : length (key ++ replicate (64 - length key) 0) ≡ 64
   long = length-append key (replicate (64 - length key) 0) ∙ ap₂ (λ (x y : ℕ). x + y) e (length-replicate (64 - length key) 0 ∙ ap (λ (n : ℕ). 64 - n) e)
+
+  length-padded : length (padded p key) ≡ 64
+  unfolding padded
+  length-padded = length-map (key ++ replicate (64 - length key) 0) (λ b. bitXor b p) ∙ long
 
   pub pad-turn : (i : ℕ) → i < 32 → set (paste (replicate 64 p) 0 (padded p key) i) i (bitXor (getD key i 0) p) ≡ paste (replicate 64 p) 0 (padded p key) (i + 1)
   unfolding padded
@@ -33,3 +37,11 @@ module _ (p : ℕ) (key : List ℕ) (e : length key ≡ 32) where
       ap (λ (s : List ℕ). take 32 s ++ replicate 32 p) w
       ∙ ap (λ (s : List ℕ). s ++ replicate 32 p) (take-at (map f key) (map f (replicate 32 0)) 32 l)
       ∙ sym w
+
+pub length-ipad : (key : List ℕ) → length key ≡ 32 → length (ipad key) ≡ 64
+unfolding ipad
+length-ipad key e = length-padded 0x36 key e
+
+pub length-opad : (key : List ℕ) → length key ≡ 32 → length (opad key) ≡ 64
+unfolding opad
+length-opad key e = length-padded 0x5c key e

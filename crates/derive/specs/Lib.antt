@@ -1,4 +1,5 @@
 pub mod Hmac
 pub mod Derivation
 pub mod Started
+pub mod Kept
 pub mod Answers

@@ -3,13 +3,20 @@ ghost use mathlib.Core.Path.{_≡_};
 ghost use lib.ListN.{length};
 ghost use Rattle.derive.specs.Hmac.{padded};
 ghost use Rattle.derive.specs.Started.{started, hmacWith, derivedWith};
+ghost use Rattle.derive.specs.Kept.{kept, derivedKept};
 ghost use Rattle.derive.specs.Answers.{maced, derivation};
-use hash::State;
+use hash::{Ahead, State};
 
 // The inner and the outer hash of a key, started.
 pub struct Started {
     pub inner: State,
     pub outer: State,
+}
+
+// A key kept: its two hashes after their first block, each with the round keys of its next.
+pub struct Kept {
+    pub inner: Ahead,
+    pub outer: Ahead,
 }
 
 // A key or a code of 32 bytes, or a refusal's number and zeros.
@@ -63,6 +70,32 @@ pub fn derive_with(k: Started, label: [u8; 4], seed: &[u8]) -> [u8; 32]
     let a = hash::feed(hash::feed(inner, &head), seed);
     let x = hash::end(hash::feed(a, &[0x01, 0x00]));
     hash::end(hash::feed(outer, &x))
+}
+
+// A key, kept for many seeds: its first blocks and the round keys after them are paid for once.
+pub fn keep(key: [u8; 32]) -> Kept
+    ensures { λ r. ⌜ r ≡ kept key ⌝ }
+{
+    let s = start(key);
+    let inner = s.inner;
+    let outer = s.outer;
+    let a = hash::keep(inner.core);
+    let b = hash::keep(outer.core);
+    Kept { inner: a, outer: b }
+}
+
+// The key derived from a kept key, a label and a seed.
+pub fn derive_kept(k: Kept, label: [u8; 4], seed: [u8; 8]) -> [u8; 32]
+    ensures { λ r. ⌜ r ≡ derivedKept k label seed ⌝ }
+{
+    let inner = k.inner;
+    let outer = k.outer;
+    let m = [
+        0x01, label[0], label[1], label[2], label[3], 0x00, seed[0], seed[1], seed[2], seed[3],
+        seed[4], seed[5], seed[6], seed[7], 0x01, 0x00,
+    ];
+    let x = hash::end_ahead(inner, &m);
+    hash::end_ahead(outer, &x)
 }
 
 // The 32 bytes of a key.

@@ -27,7 +27,7 @@ held-stateOf c t h =
     ap (λ (n : ℕ). take n (t ++ replicate (64 - length t) 0)) (mod-eq-of-lt h)
     ∙ take-append-seam t (replicate (64 - length t) 0)
 
-core-stateOf : (c : Core) (t : List ℕ) → stateOf c t .core ≡ c
+pub core-stateOf : (c : Core) (t : List ℕ) → stateOf c t .core ≡ c
 unfolding stateOf
 core-stateOf c t = refl
 

@@ -1,3 +1,4 @@
 pub mod Laws
 pub mod BlockLaws
 pub mod FeedLaws
+pub mod AheadLaws

@@ -1,2 +1,3 @@
 pub mod Hash
 pub mod States
+pub mod Ahead

@@ -9,15 +9,22 @@ ghost use Rattle.blocks.specs.Blocks.{absorbed};
 ghost use Rattle.lps.specs.Vectors.{words, bytes};
 ghost use Rattle.hash.specs.Hash.{advanced, step, padded as paddedTo, closed as closedOf, hash256};
 ghost use Rattle.hash.specs.States.{begun, fed, ended};
+ghost use Rattle.hash.specs.Ahead.{aheadOf, advancedBy, endedAhead};
 
 use octets::octet;
-use rounds::{add, compress};
+use rounds::{add, compress, compress_with, round_keys};
 
 // What the whole blocks so far have made: h, and the numbers N and Sigma.
 pub struct Core {
     pub h: [u64; 8],
     pub n: [u64; 8],
     pub sigma: [u64; 8],
+}
+
+// What the whole blocks so far have made, and the round keys of the next block.
+pub struct Ahead {
+    pub core: Core,
+    pub keys: [u64; 104],
 }
 
 // A hash under way: the first fill bytes of the buffer are not yet a block.
@@ -214,4 +221,51 @@ pub fn hash(m: &[u8]) -> [u8; 32]
     ensures { λ r. ⌜ r ≡ hash256 (now (m .entry)) ⌝ }
 {
     end(feed(begin(), m))
+}
+
+// The round keys of a core's next block, for many blocks.
+pub fn keep(c: Core) -> Ahead
+    ensures { λ r. ⌜ r ≡ aheadOf c ⌝ }
+{
+    let n = c.n;
+    let h = c.h;
+    let keys = round_keys(n, h);
+    Ahead { core: c, keys }
+}
+
+// A block m, of which so many bits are of the message, by the round keys kept.
+fn advance_with(a: Ahead, bits: u64, m: [u64; 8]) -> Core
+    ensures { λ r. ⌜ r ≡ advancedBy a bits m ⌝ }
+{
+    let core = a.core;
+    let keys = a.keys;
+    let h = core.h;
+    let n = core.n;
+    let sigma = core.sigma;
+    let h2 = compress_with(keys, h, m);
+    let n2 = add(n, [bits, 0, 0, 0, 0, 0, 0, 0]);
+    let s2 = add(sigma, m);
+    Core {
+        h: h2,
+        n: n2,
+        sigma: s2,
+    }
+}
+
+// The hash that m ends. The round keys serve a message of less than a block.
+pub fn end_ahead(a: Ahead, m: &[u8]) -> [u8; 32]
+    ensures { λ r. ⌜ r ≡ endedAhead a (now (m .entry)) ⌝ }
+{
+    if 64 <= m.len() {
+        let core = a.core;
+        let s = State {
+            core: core,
+            buffer: [0; 64],
+            fill: 0,
+        };
+        return end(feed(s, m));
+    }
+    let mut last = put([0; 64], 0, m, 0, m.len());
+    last[m.len()] = 1;
+    close(advance_with(a, m.len() as u64 * 8, load(&last, 0)))
 }

@@ -5,7 +5,8 @@ ghost use Rattle.derive.specs.Hmac.{padded};
 ghost use Rattle.derive.specs.Started.{started, hmacWith, derivedWith};
 ghost use Rattle.derive.specs.Kept.{kept, derivedKept};
 ghost use Rattle.derive.specs.Answers.{maced, derivation};
-use hash::{Ahead, State};
+use hash::Ahead;
+use hash::State;
 
 // The inner and the outer hash of a key, started.
 pub struct Started {
@@ -91,8 +92,22 @@ pub fn derive_kept(k: Kept, label: [u8; 4], seed: [u8; 8]) -> [u8; 32]
     let inner = k.inner;
     let outer = k.outer;
     let m = [
-        0x01, label[0], label[1], label[2], label[3], 0x00, seed[0], seed[1], seed[2], seed[3],
-        seed[4], seed[5], seed[6], seed[7], 0x01, 0x00,
+        0x01,
+        label[0],
+        label[1],
+        label[2],
+        label[3],
+        0x00,
+        seed[0],
+        seed[1],
+        seed[2],
+        seed[3],
+        seed[4],
+        seed[5],
+        seed[6],
+        seed[7],
+        0x01,
+        0x00,
     ];
     let x = hash::end_ahead(inner, &m);
     hash::end_ahead(outer, &x)

@@ -10,9 +10,12 @@ ghost use Rattle.lps.specs.Vectors.{words, bytes};
 ghost use Rattle.hash.specs.Hash.{advanced, step, padded as paddedTo, closed as closedOf, hash256};
 ghost use Rattle.hash.specs.States.{begun, fed, ended};
 ghost use Rattle.hash.specs.Ahead.{aheadOf, advancedBy, endedAhead};
-
 use octets::octet;
-use rounds::{add, compress, compress_with, round_keys};
+use rounds::add;
+use rounds::compress;
+use rounds::compress_block;
+use rounds::compress_with;
+use rounds::round_keys;
 
 // What the whole blocks so far have made: h, and the numbers N and Sigma.
 pub struct Core {
@@ -89,7 +92,7 @@ fn advance(c: Core, bits: u64, m: [u64; 8]) -> Core
     let h = c.h;
     let n = c.n;
     let sigma = c.sigma;
-    let h2 = compress(n, h, m);
+    let h2 = compress_block(n, h, m);
     let n2 = add(n, [bits, 0, 0, 0, 0, 0, 0, 0]);
     let s2 = add(sigma, m);
     Core {

@@ -103,7 +103,7 @@ module _ (n : ℕ) (b₀ s : List ℕ) where
   pub done-start : length b₀ ≡ 104 → Done 0 b₀ s
   done-start h =
       let e : n - 0 ≡ n = omega arith in
-      record { upto = zero-le; long = h; rest = refl; last = ap (λ (k : ℕ). through k b₀ s) e; all = ap (λ (k : ℕ). ran k b₀ s) e; }
+      record { upto = zero-le; long = h; rest = refl; last = ap (λ (k : ℕ). through k b₀ s) e; all = ap (λ (k : ℕ). ran k b₀ s) e }
 
   pub done-turn : (i : ℕ) (b t next : List ℕ) → i < n → n ≤ 13 → Done i b t → next ≡ LPS (X (each (λ j. getD b (8 * i + j) 0)) t)
       → Done (i + 1) (paste b (8 * i) next 8) next
@@ -119,21 +119,21 @@ module _ (n : ℕ) (b₀ s : List ℕ) where
         long = put-length b next (8 * i) (d .long) m (omega arith);
         rest =
             ap (λ (k : ℕ). drop k (paste b (8 * i) next 8)) (sym f)
-                ∙ put-back b next (8 * i) (d .long) m (omega arith)
-                ∙ sym (drop-drop 8 (8 * i) b)
-                ∙ ap (drop 8) (d .rest)
-                ∙ q;
+            ∙ put-back b next (8 * i) (d .long) m (omega arith)
+            ∙ sym (drop-drop 8 (8 * i) b)
+            ∙ ap (drop 8) (d .rest)
+            ∙ q;
         last =
             ap₂ (through (n - (i + 1))) (sym q) x
-                ∙ ap (λ (k : ℕ). through k (drop (8 * i) b₀) t) (sym r)
-                ∙ d .last;
+            ∙ ap (λ (k : ℕ). through k (drop (8 * i) b₀) t) (sym r)
+            ∙ d .last;
         all =
             ap (λ (k : ℕ). take k (paste b (8 * i) next 8) ++ ran (n - (i + 1)) (drop (8 * (i + 1)) b₀) next) (sym f)
-                ∙ ap (λ (k : List ℕ). k ++ ran (n - (i + 1)) (drop (8 * (i + 1)) b₀) next) (put-front b next (8 * i) (d .long) m (omega arith))
-                ∙ append-assoc (take (8 * i) b) next (ran (n - (i + 1)) (drop (8 * (i + 1)) b₀) next)
-                ∙ ap₂ (λ (k y : List ℕ). take (8 * i) b ++ (y ++ ran (n - (i + 1)) k y)) (sym q) x
-                ∙ ap (λ (k : ℕ). take (8 * i) b ++ ran k (drop (8 * i) b₀) t) (sym r)
-                ∙ d .all;
+            ∙ ap (λ (k : List ℕ). k ++ ran (n - (i + 1)) (drop (8 * (i + 1)) b₀) next) (put-front b next (8 * i) (d .long) m (omega arith))
+            ∙ append-assoc (take (8 * i) b) next (ran (n - (i + 1)) (drop (8 * (i + 1)) b₀) next)
+            ∙ ap₂ (λ (k y : List ℕ). take (8 * i) b ++ (y ++ ran (n - (i + 1)) k y)) (sym q) x
+            ∙ ap (λ (k : ℕ). take (8 * i) b ++ ran k (drop (8 * i) b₀) t) (sym r)
+            ∙ d .all;
       }
 
   pub done-end : (i : ℕ) (b t : List ℕ) → n ≤ i → Done i b t → (t ≡ through n b₀ s) × (b ≡ ran n b₀ s)

@@ -13,7 +13,8 @@ ghost use Rattle.rounds.specs.Keys.{flat, through, ran, keysOf, gBy};
 
 mod constants;
 
-use constants::{constant_word, first_word};
+use constants::constant_word;
+use constants::first_word;
 use lps::lps;
 
 // X[a](b).
@@ -105,17 +106,25 @@ fn run(b: &mut [u64], s: [u64; 8], n: usize) -> [u64; 8]
 }
 
 // n, and the constants after it.
-fn constants_after(n: [u64; 8]) -> [u64; 104]
-    ensures { λ r. ⌜ r ≡ n ++ flat C ⌝ }
+fn put_constants(b: &mut [u64], n: [u64; 8])
+    requires { ⌜ length (now b) ≡ 104 ⌝ }
+    ensures { λ _. ⌜ now (b .exit) ≡ n ++ flat C ⌝ }
 {
-    let mut b = [0; 104];
-    put(&mut b, 0, n);
+    put(b, 0, n);
     let mut i = 0;
     while i < 12 {
-        put(&mut b, 8 * i + 8, constant(i));
+        put(b, 8 * i + 8, constant(i));
         i += 1;
     }
-    b
+}
+
+// The round keys of g_n(h, m), for any m.
+fn put_keys(b: &mut [u64], n: [u64; 8], h: [u64; 8])
+    requires { ⌜ length (now b) ≡ 104 ⌝ }
+    ensures { λ _. ⌜ now (b .exit) ≡ keysOf n h ⌝ }
+{
+    put_constants(b, n);
+    run(b, h, 13);
 }
 
 // The round keys of the first block.
@@ -135,9 +144,19 @@ fn first_keys() -> [u64; 104]
 pub fn round_keys(n: [u64; 8], h: [u64; 8]) -> [u64; 104]
     ensures { λ r. ⌜ r ≡ keysOf n h ⌝ }
 {
-    let mut b = constants_after(n);
-    run(&mut b, h, 13);
+    let mut b = [0; 104];
+    put_keys(&mut b, n, h);
     b
+}
+
+// g_n(h, m) by its round keys, which what the rounds give replaces.
+fn finish(keys: &mut [u64], h: [u64; 8], m: [u64; 8]) -> [u64; 8]
+    requires { ⌜ length (now keys) ≡ 104 ⌝ }
+    ensures { λ r. ⌜ (r ≡ gBy (now (keys .entry)) h m) × (now (keys .exit) ≡ ran 12 (now (keys .entry)) m) ⌝ }
+{
+    let last = at(keys, 96);
+    let s = run(keys, m, 12);
+    xor(xor(xor(last, s), h), m)
 }
 
 // g_n(h, m) by its round keys.
@@ -145,9 +164,7 @@ pub fn compress_with(keys: [u64; 104], h: [u64; 8], m: [u64; 8]) -> [u64; 8]
     ensures { λ r. ⌜ r ≡ gBy keys h m ⌝ }
 {
     let mut b = keys;
-    let last = at(&b, 96);
-    let s = run(&mut b, m, 12);
-    xor(xor(xor(last, s), h), m)
+    finish(&mut b, h, m)
 }
 
 // Yes only if two vectors are equal.
@@ -164,14 +181,24 @@ fn alike(a: [u64; 8], b: [u64; 8]) -> bool
     true
 }
 
-// g_n(h, m). The first block of every hash starts from one n and one h, so its round keys are constants.
+// g_n(h, m).
 pub fn compress(n: [u64; 8], h: [u64; 8], m: [u64; 8]) -> [u64; 8]
     ensures { λ r. ⌜ r ≡ g n h m ⌝ }
 {
+    let mut b = [0; 104];
+    put_keys(&mut b, n, h);
+    finish(&mut b, h, m)
+}
+
+// g_n(h, m), of a block that may be the first: every hash starts from one n and one h, so the round keys there are constants.
+pub fn compress_block(n: [u64; 8], h: [u64; 8], m: [u64; 8]) -> [u64; 8]
+    ensures { λ r. ⌜ r ≡ g n h m ⌝ }
+{
     if alike(n, [0; 8]) && alike(h, [0x0101010101010101; 8]) {
-        return compress_with(first_keys(), h, m);
+        let mut first = first_keys();
+        return finish(&mut first, h, m);
     }
-    compress_with(round_keys(n, h), h, m)
+    compress(n, h, m)
 }
 
 struct Sum {

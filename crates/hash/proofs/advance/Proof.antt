@@ -13,7 +13,7 @@ unfolding advanced
 returns c =
     let a = c .before .before .before .before .before .before .args in
     let n = c .before .add .ensures ∙ ap (λ (v : List ℕ). a .c .n ⊞ v) (vec-word (a .bits) (search needs)) in
-    λ k. record { h = c .before .before .compress .ensures k; n = n k; sigma = c .add2 .ensures k }
+    λ k. record { h = c .before .before .compress-block .ensures k; n = n k; sigma = c .add2 .ensures k }
 
 pub advance-spec : {M : Type 1} → statement M
 advance-spec = tie.close (tie.spec (λ c κs. search needs) (λ c κs. search needs) (λ c κs. search needs) returns)

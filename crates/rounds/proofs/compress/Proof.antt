@@ -1,7 +1,7 @@
-use mathlib.Core.Path.{sym, ap, ap₂, _∙_}
+use mathlib.Core.Path.{ap, _∙_}
 use mathlib.Core.List.{List}
 use Prim.Native.Nat.{ℕ}
-use Rattle.rounds.specs.Keys.{keysOf, gBy}
+use Rattle.rounds.specs.Keys.{gBy}
 use Rattle.rounds.proofs.KeyLaws.{g-by}
 use borrow.Author.Needs.{needs}
 use Rattle.rounds.proofs.compress.Statement.{statement}
@@ -9,29 +9,10 @@ use Rattle.rounds.proofs.compress.Tie as tie
 
 returns : tie.Need-returns
 returns c =
-    let second = c .before .before in
-    let first = second .before .before in
-    let a = first .before .before .args in
-    let n = first .before .alike .ensures (first .if1 .taken) in
-    let h = second .before .alike2 .ensures (second .if2 .taken) in
-    c .compress-with .ensures
-    ∙ ap (λ (ks : List ℕ). gBy ks (a .h) (a .m)) (c .before .first-keys .ensures ∙ sym (ap₂ keysOf n h))
+    let a = c .before .before .before .before .before .before .args in
+    c .before .finish .ensures .0
+    ∙ ap (λ (b : List ℕ). gBy b (a .h) (a .m)) (c .before .before .before .before .put-keys .ensures)
     ∙ g-by (a .n) (a .h) (a .m)
 
-returns-2 : tie.Need-returns-2
-returns-2 c =
-    let a = c .before .before .before .before .args in
-    c .compress-with2 .ensures ∙ ap (λ (ks : List ℕ). gBy ks (a .h) (a .m)) (c .before .round-keys .ensures) ∙ g-by (a .n) (a .h) (a .m)
-
 pub compress-spec : {M : Type 1} → statement M
-compress-spec =
-    tie.close
-    (tie.spec
-    (λ c κs. search needs)
-    (λ c κs. search needs)
-    (λ c κs. search needs)
-    (λ c κs. search needs)
-    returns
-    (λ c κs. search needs)
-    (λ c κs. search needs)
-    returns-2)
+compress-spec = tie.close (tie.spec (λ c. search needs) (λ c κs. search needs) (λ c. search needs) (λ c κs. search needs) returns)

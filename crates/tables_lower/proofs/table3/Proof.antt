@@ -6,20 +6,20 @@ use lib.Bits.{bitXor, xor-lt}
 use lib.Dec.{lit<}
 use lib.ListN.{getD}
 use Rattle.octets.proofs.Arms.{last}
 use Rattle.tables.specs.Matrix.{entry}
 use Rattle.tables.proofs.Words.{all, at}
-use Rattle.tables.proofs.table2.Statement.{statement}
-use Rattle.tables.proofs.table2.Tie as tie
-use Rattle.tables.proofs.table2.Reads as reads
-use Rattle.tables.proofs.table2.Lts as lts
+use Rattle.tables_lower.proofs.table3.Statement.{statement}
+use Rattle.tables_lower.proofs.table3.Tie as tie
+use Rattle.tables_lower.proofs.table3.Reads as reads
+use Rattle.tables_lower.proofs.table3.Lts as lts
 
 arm : (s : lts.Start reads.Pre reads.Post) {k : ℕ} → bitXor (s .args .b) 0x80 ≡ k
-    → getD all (256 * 2 + bitXor k 0x80) 0 ≡ entry 2 (s .args .b)
-arm s e = at 2 (lit< tt) (omega arith) e
+    → getD all (256 * 3 + bitXor k 0x80) 0 ≡ entry 3 (s .args .b)
+arm s e = at 3 (lit< tt) (omega arith) e
 
-pub table2-spec : {M : Type 1} → statement M
+pub table3-spec : {M : Type 1} → statement M
 unfolding all
-table2-spec =
+table3-spec =
     tie.close
     (tie.spec
     (λ c. arm (c .before) (c .match .keys1)) (λ c. arm (c .before) (c .match .keys2)) (λ c. arm (c .before) (c .match .keys3)) (λ c. arm (c .before) (c .match .keys4))

@@ -6,20 +6,20 @@ use lib.Bits.{bitXor, xor-lt}
 use lib.Dec.{lit<}
 use lib.ListN.{getD}
 use Rattle.octets.proofs.Arms.{last}
 use Rattle.tables.specs.Matrix.{entry}
 use Rattle.tables.proofs.Words.{all, at}
-use Rattle.tables.proofs.table1.Statement.{statement}
-use Rattle.tables.proofs.table1.Tie as tie
-use Rattle.tables.proofs.table1.Reads as reads
-use Rattle.tables.proofs.table1.Lts as lts
+use Rattle.tables_upper.proofs.table4.Statement.{statement}
+use Rattle.tables_upper.proofs.table4.Tie as tie
+use Rattle.tables_upper.proofs.table4.Reads as reads
+use Rattle.tables_upper.proofs.table4.Lts as lts
 
 arm : (s : lts.Start reads.Pre reads.Post) {k : ℕ} → bitXor (s .args .b) 0x80 ≡ k
-    → getD all (256 * 1 + bitXor k 0x80) 0 ≡ entry 1 (s .args .b)
-arm s e = at 1 (lit< tt) (omega arith) e
+    → getD all (256 * 4 + bitXor k 0x80) 0 ≡ entry 4 (s .args .b)
+arm s e = at 4 (lit< tt) (omega arith) e
 
-pub table1-spec : {M : Type 1} → statement M
+pub table4-spec : {M : Type 1} → statement M
 unfolding all
-table1-spec =
+table4-spec =
     tie.close
     (tie.spec
     (λ c. arm (c .before) (c .match .keys1)) (λ c. arm (c .before) (c .match .keys2)) (λ c. arm (c .before) (c .match .keys3)) (λ c. arm (c .before) (c .match .keys4))

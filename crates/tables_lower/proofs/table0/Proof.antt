@@ -6,20 +6,20 @@ use lib.Bits.{bitXor, xor-lt}
 use lib.Dec.{lit<}
 use lib.ListN.{getD}
 use Rattle.octets.proofs.Arms.{last}
 use Rattle.tables.specs.Matrix.{entry}
 use Rattle.tables.proofs.Words.{all, at}
-use Rattle.tables.proofs.table7.Statement.{statement}
-use Rattle.tables.proofs.table7.Tie as tie
-use Rattle.tables.proofs.table7.Reads as reads
-use Rattle.tables.proofs.table7.Lts as lts
+use Rattle.tables_lower.proofs.table0.Statement.{statement}
+use Rattle.tables_lower.proofs.table0.Tie as tie
+use Rattle.tables_lower.proofs.table0.Reads as reads
+use Rattle.tables_lower.proofs.table0.Lts as lts
 
 arm : (s : lts.Start reads.Pre reads.Post) {k : ℕ} → bitXor (s .args .b) 0x80 ≡ k
-    → getD all (256 * 7 + bitXor k 0x80) 0 ≡ entry 7 (s .args .b)
-arm s e = at 7 (lit< tt) (omega arith) e
+    → getD all (256 * 0 + bitXor k 0x80) 0 ≡ entry 0 (s .args .b)
+arm s e = at 0 (lit< tt) (omega arith) e
 
-pub table7-spec : {M : Type 1} → statement M
+pub table0-spec : {M : Type 1} → statement M
 unfolding all
-table7-spec =
+table0-spec =
     tie.close
     (tie.spec
     (λ c. arm (c .before) (c .match .keys1)) (λ c. arm (c .before) (c .match .keys2)) (λ c. arm (c .before) (c .match .keys3)) (λ c. arm (c .before) (c .match .keys4))

@@ -1,6 +1,6 @@
 -- A message ended by round keys that were kept is ended as by its core. Assumes nothing.
 use mathlib.Core.Path.{_≡_, refl, sym, ap, ap₂, _∙_}
-use mathlib.Core.Bool.{Bool, true, false, cond}
+use mathlib.Core.Bool.{Bool, true, false}
 use mathlib.Core.List.{List, [], _++_}
 use Prim.Native.Nat.{ℕ, _*_, _/_, _<_, _≤_}
 use native.Mathlib.Omega.{arith}
@@ -15,7 +15,6 @@ use Rattle.lps.specs.Vectors.{words}
 use Rattle.rounds.specs.Sums.{vec, _⊞_}
 use Rattle.rounds.proofs.KeyLaws.{g-by}
 use Rattle.hash.specs.declared.Core.{Core}
-use Rattle.hash.specs.declared.State.{State}
 use Rattle.hash.specs.declared.Ahead.{Ahead}
 use Rattle.hash.specs.Hash.{start, step, advanced, padded, closed, finished}
 use Rattle.hash.specs.States.{filled, stateOf, held, begun, fed, ended}

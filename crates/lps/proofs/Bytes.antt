@@ -5,11 +5,11 @@ use mathlib.Core.List.{List, [], _∷_, _++_}
 use Prim.Native.Nat.{ℕ, zero, suc, _+_, _*_, _/_, _%_, _<_}
 use native.Mathlib.Omega.{arith}
 use lib.Dec.{eqb, eqb→eq, lit<}
-use lib.ListN.{length, getD, take, drop, length-append, length-drop, length-map, List·getD-append}
-use lib.Seq.{getD-append-add, getD-take, getD-drop, length-take-le}
-use Rattle.octets.specs.Numbers.{Octets, le, leOctets}
-use Rattle.octets.proofs.NumberLaws.{leOctets-le, length-leOctets, octets-leOctets}
-use Rattle.octets.proofs.Parts.{getD-map, octets-test, octets-take, octets-drop, octets-append}
+use lib.ListN.{length, getD, length-append, length-map, List·getD-append}
+use lib.Seq.{getD-append-add}
+use Rattle.octets.specs.Numbers.{Octets, leOctets}
+use Rattle.octets.proofs.NumberLaws.{length-leOctets, octets-leOctets}
+use Rattle.octets.proofs.Parts.{getD-map, octets-append}
 use Rattle.octets.proofs.Table.{at}
 use Rattle.tables.specs.Tables.{pi}
 use Rattle.lps.specs.Vectors.{bytes, tau, S, P}

@@ -4,8 +4,14 @@
 ghost use mathlib.Core.Path.{_≡_};
 ghost use Rattle.lps.specs.Vectors.{LPS, added};
 use octets::octet;
-use tables_lower::{table0, table1, table2, table3};
-use tables_upper::{table4, table5, table6, table7};
+use tables_lower::table0;
+use tables_lower::table1;
+use tables_lower::table2;
+use tables_lower::table3;
+use tables_upper::table4;
+use tables_upper::table5;
+use tables_upper::table6;
+use tables_upper::table7;
 
 // What the bytes of word 0 add to the eight words: byte i to word i. The others alike.
 fn add0(a: u64, r: [u64; 8]) -> [u64; 8]

@@ -1,8 +1,7 @@
 -- The round keys of the first block, each computed from the one before. Assumes nothing.
-use mathlib.Core.Path.{_≡_, refl, sym, ap, _∙_}
+use mathlib.Core.Path.{_≡_, refl, ap, _∙_}
 use mathlib.Core.List.{List, [], _∷_, _++_}
 use Prim.Native.Nat.{ℕ}
-use lib.Bits.{bitXor}
 use lib.ListN.{length, drop, replicate}
 use Rattle.octets.specs.Numbers.{le, leOctets}
 use Rattle.tables.specs.Tables.{pi, A}

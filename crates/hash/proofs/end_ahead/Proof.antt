@@ -1,11 +1,11 @@
 use mathlib.Core.Path.{_≡_, ap, ap₂, _∙_}
-use Prim.Native.Nat.{_*_, _<_, _≤_}
+use Prim.Native.Nat.{_*_, _<_}
 use native.Mathlib.Omega.{arith}
 use lib.ListN.{length, set, length-set}
 use lib.Seq.{take-all}
 use Rattle.lps.specs.Vectors.{words}
-use Rattle.hash.specs.Hash.{padded, closed}
-use Rattle.hash.specs.States.{stateOf, filled, fed, ended}
+use Rattle.hash.specs.Hash.{closed}
+use Rattle.hash.specs.States.{stateOf, filled, ended}
 use Rattle.hash.specs.Ahead.{advancedBy}
 use Rattle.hash.proofs.AheadLaws.{padded-put, ended-short, ended-long}
 use borrow.Author.Needs.{needs}

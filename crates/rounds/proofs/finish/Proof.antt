@@ -1,8 +1,3 @@
-use mathlib.Core.Path.{_≡_, ap, _∙_}
-use mathlib.Core.List.{List}
-use Prim.Native.Nat.{ℕ}
-use lib.ListN.{drop}
-use Rattle.lps.specs.Vectors.{X}
 use Rattle.rounds.specs.Keys.{gBy}
 use Rattle.rounds.proofs.KeyLaws.{X-at}
 use borrow.Author.Needs.{needs}

@@ -1,10 +1,9 @@
 use mathlib.Core.Path.{_≡_, sym, ap, _∙_, subst}
 use mathlib.Core.List.{List}
-use Prim.Native.Nat.{ℕ, _+_, _-_, _*_, _<_, _≤_}
+use Prim.Native.Nat.{ℕ, _+_, _-_}
 use native.Mathlib.Omega.{arith}
-use lib.ListN.{length, getD}
-use lib.Seq.{paste}
-use Rattle.lps.specs.Vectors.{each, X, LPS}
+use lib.ListN.{length}
+use Rattle.lps.specs.Vectors.{X, LPS}
 use Rattle.rounds.proofs.KeyLaws.{Done, done-start, done-turn, done-end}
 use borrow.Author.Needs.{needs}
 use Rattle.rounds.proofs.run.Statement.{statement}

@@ -10,7 +10,7 @@ use lib.Seq.{paste}
 use Rattle.octets.specs.Numbers.{leOctets}
 use Rattle.octets.proofs.Parts.{made-turn, made-end}
 use Rattle.tables.specs.Matrix.{entry}
-use Rattle.lps.specs.Vectors.{added}
+use Rattle.lps.specs.Inner.{added}
 use Rattle.lps.proofs.Each.{each-at}
 
 length-added : (j a : ℕ) (r : List ℕ) → length (added j a r) ≡ 8

@@ -8,7 +8,8 @@ use Rattle.octets.specs.Numbers.{le, leOctets}
 use Rattle.octets.proofs.Parts.{elements-part}
 use Rattle.tables.specs.Tables.{pi}
 use Rattle.tables.specs.Matrix.{l}
-use Rattle.lps.specs.Vectors.{each, bytes, words, S, P, L, LPS, added}
+use Rattle.lps.specs.Vectors.{each, bytes, words, S, P, L, LPS}
+use Rattle.lps.specs.Inner.{added}
 use Rattle.lps.proofs.Each.{each-equal}
 use Rattle.lps.proofs.Linear.{looked, looked-word}
 use Rattle.lps.proofs.Bytes.{length-P, permuted-at}

@@ -6,7 +6,7 @@ use lib.Bits.{bitXor}
 use lib.ListN.{getD, take, drop}
 use Rattle.octets.specs.Numbers.{le, leOctets}
 use Rattle.tables.specs.Tables.{pi}
-use Rattle.tables.specs.Matrix.{l, entry}
+use Rattle.tables.specs.Matrix.{l}
 
 -- f(0) to f(7), the lowest first
 abbrev pub each : (ℕ → ℕ) → List ℕ
@@ -52,7 +52,3 @@ L a = map l a
 -- L(P(S(a))), on the words of a
 unfoldable pub LPS : List ℕ → List ℕ
 LPS a = L (words (P (S (bytes a))))
-
--- the vector r and what the word a gives through table j, its byte i to word i: LPS goes word by word
-unfoldable pub added : ℕ → ℕ → List ℕ → List ℕ
-added j a r = each (λ i. bitXor (getD r i 0) (entry j (getD (leOctets 8 a) i 0)))

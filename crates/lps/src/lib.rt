@@ -2,7 +2,8 @@
 //
 // One function a table, and one call of each: only so does LLVM put the table in place, unroll the loop and keep the vector in registers.
 ghost use mathlib.Core.Path.{_≡_};
-ghost use Rattle.lps.specs.Vectors.{LPS, added};
+ghost use Rattle.lps.specs.Vectors.{LPS};
+ghost use Rattle.lps.specs.Inner.{added};
 use octets::octet;
 use tables_lower::table0;
 use tables_lower::table1;

@@ -2,14 +2,14 @@
 use mathlib.Core.Path.{_≡_, refl, ap, _∙_}
 use mathlib.Core.List.{List, [], _∷_, _++_}
 use Prim.Native.Nat.{ℕ}
-use lib.ListN.{length, drop, replicate}
+use lib.ListN.{length, getD, drop, replicate}
 use Rattle.octets.specs.Numbers.{le, leOctets}
 use Rattle.tables.specs.Tables.{pi, A}
 use Rattle.tables.specs.Matrix.{lin, l}
 use Rattle.lps.specs.Vectors.{bytes, words, tau, X, S, P, L, LPS}
 use Rattle.rounds.specs.Constants.{C}
 use Rattle.rounds.specs.Sums.{vec, lowest}
-use Rattle.rounds.specs.Keys.{schedule, keysOf}
+use Rattle.rounds.specs.Keys.{schedule, keysOf, firstKeys}
 
 abbrev K1 : List ℕ
 K1 =
@@ -83,51 +83,51 @@ first-key : LPS (X (replicate 8 0x0101010101010101) (replicate 8 0)) ≡ K1
 unfolding LPS L words P S bytes X le leOctets l lin A pi tau
 first-key = refl
 
-key1 : LPS (X K1 (vec 0xb1085bda1ecadae9ebcb2f81c0657c1f2f6a76432e45d016714eb88d7585c4fc4b7ce09192676901a2422a08a460d31505767436cc744d23dd806559f2a64507)) ≡ K2
+key1 : LPS (X K1 (vec (getD C 0 0))) ≡ K2
 unfolding LPS L words P S bytes X le leOctets l lin A pi tau C vec lowest
 key1 = refl
 
-key2 : LPS (X K2 (vec 0x6fa3b58aa99d2f1a4fe39d460f70b5d7f3feea720a232b9861d55e0f16b501319ab5176b12d699585cb561c2db0aa7ca55dda21bd7cbcd56e679047021b19bb7)) ≡ K3
+key2 : LPS (X K2 (vec (getD C 1 0))) ≡ K3
 unfolding LPS L words P S bytes X le leOctets l lin A pi tau C vec lowest
 key2 = refl
 
-key3 : LPS (X K3 (vec 0xf574dcac2bce2fc70a39fc286a3d843506f15e5f529c1f8bf2ea7514b1297b7bd3e20fe490359eb1c1c93a376062db09c2b6f443867adb31991e96f50aba0ab2)) ≡ K4
+key3 : LPS (X K3 (vec (getD C 2 0))) ≡ K4
 unfolding LPS L words P S bytes X le leOctets l lin A pi tau C vec lowest
 key3 = refl
 
-key4 : LPS (X K4 (vec 0xef1fdfb3e81566d2f948e1a05d71e4dd488e857e335c3c7d9d721cad685e353fa9d72c82ed03d675d8b71333935203be3453eaa193e837f1220cbebc84e3d12e)) ≡ K5
+key4 : LPS (X K4 (vec (getD C 3 0))) ≡ K5
 unfolding LPS L words P S bytes X le leOctets l lin A pi tau C vec lowest
 key4 = refl
 
-key5 : LPS (X K5 (vec 0x4bea6bacad4747999a3f410c6ca923637f151c1f1686104a359e35d7800fffbdbfcd1747253af5a3dfff00b723271a167a56a27ea9ea63f5601758fd7c6cfe57)) ≡ K6
+key5 : LPS (X K5 (vec (getD C 4 0))) ≡ K6
 unfolding LPS L words P S bytes X le leOctets l lin A pi tau C vec lowest
 key5 = refl
 
-key6 : LPS (X K6 (vec 0xae4faeae1d3ad3d96fa4c33b7a3039c02d66c4f95142a46c187f9ab49af08ec6cffaa6b71c9ab7b40af21f66c2bec6b6bf71c57236904f35fa68407a46647d6e)) ≡ K7
+key6 : LPS (X K6 (vec (getD C 5 0))) ≡ K7
 unfolding LPS L words P S bytes X le leOctets l lin A pi tau C vec lowest
 key6 = refl
 
-key7 : LPS (X K7 (vec 0xf4c70e16eeaac5ec51ac86febf240954399ec6c7e6bf87c9d3473e33197a93c90992abc52d822c3706476983284a05043517454ca23c4af38886564d3a14d493)) ≡ K8
+key7 : LPS (X K7 (vec (getD C 6 0))) ≡ K8
 unfolding LPS L words P S bytes X le leOctets l lin A pi tau C vec lowest
 key7 = refl
 
-key8 : LPS (X K8 (vec 0x9b1f5b424d93c9a703e7aa020c6e41414eb7f8719c36de1e89b4443b4ddbc49af4892bcb929b069069d18d2bd1a5c42f36acc2355951a8d9a47f0dd4bf02e71e)) ≡ K9
+key8 : LPS (X K8 (vec (getD C 7 0))) ≡ K9
 unfolding LPS L words P S bytes X le leOctets l lin A pi tau C vec lowest
 key8 = refl
 
-key9 : LPS (X K9 (vec 0x378f5a541631229b944c9ad8ec165fde3a7d3a1b258942243cd955b7e00d0984800a440bdbb2ceb17b2b8a9aa6079c540e38dc92cb1f2a607261445183235adb)) ≡ K10
+key9 : LPS (X K9 (vec (getD C 8 0))) ≡ K10
 unfolding LPS L words P S bytes X le leOctets l lin A pi tau C vec lowest
 key9 = refl
 
-key10 : LPS (X K10 (vec 0xabbedea680056f52382ae548b2e4f3f38941e71cff8a78db1fffe18a1b3361039fe76702af69334b7a1e6c303b7652f43698fad1153bb6c374b4c7fb98459ced)) ≡ K11
+key10 : LPS (X K10 (vec (getD C 9 0))) ≡ K11
 unfolding LPS L words P S bytes X le leOctets l lin A pi tau C vec lowest
 key10 = refl
 
-key11 : LPS (X K11 (vec 0x7bcd9ed0efc889fb3002c6cd635afe94d8fa6bbbebab076120018021148466798a1d71efea48b9caefbacd1d7d476e98dea2594ac06fd85d6bcaa4cd81f32d1b)) ≡ K12
+key11 : LPS (X K11 (vec (getD C 10 0))) ≡ K12
 unfolding LPS L words P S bytes X le leOctets l lin A pi tau C vec lowest
 key11 = refl
 
-key12 : LPS (X K12 (vec 0x378ee767f11631bad21380b00449b17acda43c32bcdf1d77f82012d430219f9b5d80ef9d1891cc86e71da4aa88e12852faf417d5d9b21b9948bc924af11bd720)) ≡ K13
+key12 : LPS (X K12 (vec (getD C 11 0))) ≡ K13
 unfolding LPS L words P S bytes X le leOctets l lin A pi tau C vec lowest
 key12 = refl
 
@@ -135,16 +135,12 @@ step : (c : ℕ) (cs k : List ℕ) {next rest : List ℕ} → LPS (X k (vec c)) 
 unfolding schedule
 step c cs k e r = ap (λ (x : List ℕ). k ++ schedule cs x) e ∙ ap (λ (x : List ℕ). k ++ x) r
 
--- the round keys of the first block
-abbrev pub Keys : List ℕ
-Keys = keysOf (replicate 8 0) (replicate 8 0x0101010101010101)
-
-pub first-right : Keys ≡ first
-unfolding keysOf C schedule first
+pub first-right : firstKeys ≡ first
+unfolding firstKeys keysOf C schedule first
 first-right =
     ap (schedule C) first-key
     ∙ step _ (drop 1 C) K1 key1 (step _ (drop 2 C) K2 key2 (step _ (drop 3 C) K3 key3 (step _ (drop 4 C) K4 key4 (step _ (drop 5 C) K5 key5 (step _ (drop 6 C) K6 key6 (step _ (drop 7 C) K7 key7 (step _ (drop 8 C) K8 key8 (step _ (drop 9 C) K9 key9 (step _ (drop 10 C) K10 key10 (step _ (drop 11 C) K11 key11 (step _ (drop 12 C) K12 key12 refl)))))))))))
 
-pub length-first : length Keys ≡ 104
+pub length-first : length firstKeys ≡ 104
 unfolding first
 length-first = ap length first-right

@@ -12,7 +12,8 @@ use Rattle.lps.proofs.Each.{each-equal, each-at}
 use Rattle.rounds.specs.Constants.{C}
 use Rattle.rounds.specs.Sums.{vec}
 use Rattle.rounds.specs.Rounds.{rounds, E, g}
-use Rattle.rounds.specs.Keys.{schedule, keysOf, through, gBy, ran, flat}
+use Rattle.rounds.specs.Keys.{schedule, keysOf, through, gBy}
+use Rattle.rounds.specs.Inner.{ran, flat}
 use Rattle.rounds.proofs.SumLaws.{length-vec}
 
 count : length C ≡ 12

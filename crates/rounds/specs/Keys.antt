@@ -1,7 +1,7 @@
 -- E by its round keys (RFC 6986, section 8), so that keys that are known are not computed again. Assumes nothing.
 use mathlib.Core.List.{List, [], _∷_, _++_}
 use Prim.Native.Nat.{ℕ, zero, suc}
-use lib.ListN.{drop}
+use lib.ListN.{drop, replicate}
 use Rattle.lps.specs.Vectors.{X, LPS}
 use Rattle.rounds.specs.Constants.{C}
 use Rattle.rounds.specs.Sums.{vec}
@@ -15,6 +15,10 @@ schedule (c ∷ cs) k = k ++ schedule cs (LPS (X k (vec c)))
 unfoldable pub keysOf : List ℕ → List ℕ → List ℕ
 keysOf n h = schedule C (LPS (X h n))
 
+-- the round keys of the first block of every hash, where N is 0 and h is IV, 64 bytes 01
+unfoldable pub firstKeys : List ℕ
+firstKeys = keysOf (replicate 8 0) (replicate 8 0x0101010101010101)
+
 -- n rounds from s on, each by the next key of ks; X takes the first eight words
 unfoldable pub through : ℕ → List ℕ → List ℕ → List ℕ
 through zero ks s = s
@@ -23,13 +27,3 @@ through (suc n) ks s = through n (drop 8 ks) (LPS (X ks s))
 -- g_N(h, m) by its round keys
 unfoldable pub gBy : List ℕ → List ℕ → List ℕ → List ℕ
 gBy ks h m = X (X (X (drop 96 ks) (through 12 ks m)) h) m
-
--- the same rounds, with what each gives in the place of its key
-unfoldable pub ran : ℕ → List ℕ → List ℕ → List ℕ
-ran zero ks s = ks
-ran (suc n) ks s = LPS (X ks s) ++ ran n (drop 8 ks) (LPS (X ks s))
-
--- numbers as vectors, one after the other
-unfoldable pub flat : List ℕ → List ℕ
-flat [] = []
-flat (c ∷ cs) = vec c ++ flat cs

@@ -2,10 +2,10 @@
 // constants; an array would be stored anew at each use.
 ghost use mathlib.Core.Path.{_≡_};
 ghost use Prim.Native.Nat.{_/_, _%_, _<_};
-ghost use lib.ListN.{getD, replicate};
+ghost use lib.ListN.{getD};
 ghost use Rattle.rounds.specs.Constants.{C};
 ghost use Rattle.rounds.specs.Sums.{vec};
-ghost use Rattle.rounds.specs.Keys.{keysOf};
+ghost use Rattle.rounds.specs.Keys.{firstKeys};
 
 // Word i of the constants one after the other, each of eight words, lowest first (RFC 6986, section 6.5).
 pub(crate) fn constant_word(i: usize) -> u64
@@ -115,7 +115,7 @@ pub(crate) fn constant_word(i: usize) -> u64
 // Word i of the round keys of the first block: there N is 0 and h is IV, 64 bytes 01.
 pub(crate) fn first_word(i: usize) -> u64
     requires { ⌜ i < 104 ⌝ }
-    ensures { λ r. ⌜ r ≡ getD (keysOf (replicate 8 0) (replicate 8 0x0101010101010101)) i 0 ⌝ }
+    ensures { λ r. ⌜ r ≡ getD firstKeys i 0 ⌝ }
 {
     match i {
         0 => 0x23c5ee40b07b5f15,

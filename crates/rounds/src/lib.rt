@@ -1,15 +1,16 @@
 // The round functions of GOST R 34.11-2012 (RFC 6986, section 8) and its sums modulo 2 to the 512, on vectors of eight words, lowest first.
 ghost use mathlib.Core.Path.{_≡_};
-ghost use mathlib.Core.Bool.{true};
 ghost use mathlib.Core.List.{_++_};
 ghost use Prim.Native.Nat.{_+_, _*_, _^_, _<_, _≤_};
-ghost use lib.ListN.{getD, length, replicate, take, drop};
+ghost use lib.ListN.{getD, length, take, drop};
 ghost use lib.Seq.{paste};
+ghost use Rattle.octets.specs.Same.{same};
 ghost use Rattle.lps.specs.Vectors.{each, X};
 ghost use Rattle.rounds.specs.Constants.{C};
 ghost use Rattle.rounds.specs.Sums.{vec, _⊞_};
 ghost use Rattle.rounds.specs.Rounds.{g};
-ghost use Rattle.rounds.specs.Keys.{flat, through, ran, keysOf, gBy};
+ghost use Rattle.rounds.specs.Keys.{through, keysOf, firstKeys, gBy};
+ghost use Rattle.rounds.specs.Inner.{flat, ran};
 
 mod constants;
 
@@ -50,7 +51,7 @@ fn constant(i: usize) -> [u64; 8]
 // The round key K_(i+1) of the first block.
 fn first_key(i: usize) -> [u64; 8]
     requires { ⌜ i < 13 ⌝ }
-    ensures { λ r. ⌜ r ≡ take 8 (drop (8 * i) (keysOf (replicate 8 0) (replicate 8 0x0101010101010101))) ⌝ }
+    ensures { λ r. ⌜ r ≡ take 8 (drop (8 * i) (firstKeys)) ⌝ }
 {
     let mut r = [0; 8];
     let mut j = 0;
@@ -61,7 +62,7 @@ fn first_key(i: usize) -> [u64; 8]
     r
 }
 
-// The vector from word p on.
+// The vector read from word p on.
 fn at(b: &[u64], p: usize) -> [u64; 8]
     requires { ⌜ p + 8 ≤ length (now b) ⌝ }
     ensures { λ r. ⌜ r ≡ each (λ j. getD (now (b .entry)) (p + j) 0) ⌝ }
@@ -78,7 +79,7 @@ fn at(b: &[u64], p: usize) -> [u64; 8]
     ]
 }
 
-// A vector from word p on.
+// A vector written from word p on.
 fn put(b: &mut [u64], p: usize, v: [u64; 8])
     requires { ⌜ p + 8 ≤ length (now b) ⌝ }
     ensures { λ _. ⌜ now (b .exit) ≡ paste (now (b .entry)) p v 8 ⌝ }
@@ -118,7 +119,7 @@ fn put_constants(b: &mut [u64], n: [u64; 8])
     }
 }
 
-// The round keys of g_n(h, m), for any m.
+// The round keys of g_n(h, m), into a buffer.
 fn put_keys(b: &mut [u64], n: [u64; 8], h: [u64; 8])
     requires { ⌜ length (now b) ≡ 104 ⌝ }
     ensures { λ _. ⌜ now (b .exit) ≡ keysOf n h ⌝ }
@@ -129,7 +130,7 @@ fn put_keys(b: &mut [u64], n: [u64; 8], h: [u64; 8])
 
 // The round keys of the first block.
 fn first_keys() -> [u64; 104]
-    ensures { λ r. ⌜ r ≡ keysOf (replicate 8 0) (replicate 8 0x0101010101010101) ⌝ }
+    ensures { λ r. ⌜ r ≡ firstKeys ⌝ }
 {
     let mut b = [0; 104];
     let mut i = 0;
@@ -167,9 +168,9 @@ pub fn compress_with(keys: [u64; 104], h: [u64; 8], m: [u64; 8]) -> [u64; 8]
     finish(&mut b, h, m)
 }
 
-// Yes only if two vectors are equal.
+// Whether two vectors are equal.
 fn alike(a: [u64; 8], b: [u64; 8]) -> bool
-    ensures { λ r. ⌜ (r ≡ true → a ≡ b) ⌝ }
+    ensures { λ r. ⌜ r ≡ same a b ⌝ }
 {
     let mut i = 0;
     while i < 8 {

@@ -4,7 +4,7 @@ use native.Mathlib.Omega.{arith}
 use borrow.Author.Needs.{needs}
 use lib.ListN.{length}
 use lib.Seq.{paste-zero}
-use Rattle.lps.specs.Vectors.{added}
+use Rattle.lps.specs.Inner.{added}
 use Rattle.lps.proofs.Added.{Upto, added-turn, added-end}
 use Rattle.lps.proofs.add1.Statement.{statement}
 use Rattle.lps.proofs.add1.Tie as tie

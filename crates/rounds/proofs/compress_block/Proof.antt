@@ -1,19 +1,21 @@
 use mathlib.Core.Path.{sym, ap, ap₂, _∙_}
 use mathlib.Core.List.{List}
 use Prim.Native.Nat.{ℕ}
-use Rattle.rounds.specs.Keys.{keysOf, gBy}
+use Rattle.octets.proofs.SameLaws.{same-true}
+use Rattle.rounds.specs.Keys.{keysOf, firstKeys, gBy}
 use Rattle.rounds.proofs.KeyLaws.{g-by}
 use borrow.Author.Needs.{needs}
 use Rattle.rounds.proofs.compress_block.Statement.{statement}
 use Rattle.rounds.proofs.compress_block.Tie as tie
 
 returns : tie.Need-returns
+unfolding firstKeys
 returns c =
     let second = c .before .before .before .before in
     let first = second .before .before in
     let a = first .before .before .args in
-    let n = first .before .alike .ensures (first .if1 .taken) in
-    let h = second .before .alike2 .ensures (second .if2 .taken) in
+    let n = same-true _ _ (sym (first .before .alike .ensures) ∙ first .if1 .taken) in
+    let h = same-true _ _ (sym (second .before .alike2 .ensures) ∙ second .if2 .taken) in
     c .before .finish .ensures .0
     ∙ ap (λ (ks : List ℕ). gBy ks (a .h) (a .m)) (c .before .before .before .first-keys .ensures ∙ sym (ap₂ keysOf n h))
     ∙ g-by (a .n) (a .h) (a .m)

@@ -6,7 +6,7 @@ use lib.ListN.{length, getD, take, drop}
 use lib.Seq.{paste}
 use Rattle.rounds.specs.Constants.{C}
 use Rattle.rounds.specs.Sums.{vec}
-use Rattle.rounds.specs.Keys.{flat}
+use Rattle.rounds.specs.Inner.{flat}
 use Rattle.rounds.proofs.SumLaws.{length-vec}
 use Rattle.rounds.proofs.KeyLaws.{put-length, put-front, Filled, filled-turn, filled-end, flat-turn, flat-end}
 use borrow.Author.Needs.{needs}

@@ -2,7 +2,7 @@ use mathlib.Core.Path.{_≡_, ap, _∙_}
 use mathlib.Core.List.{List}
 use Prim.Native.Nat.{ℕ}
 use lib.ListN.{length}
-use Rattle.rounds.specs.Keys.{ran}
+use Rattle.rounds.specs.Inner.{ran}
 use Rattle.rounds.proofs.KeyLaws.{ran-keys}
 use borrow.Author.Needs.{needs}
 use Rattle.rounds.proofs.put_keys.Statement.{statement}

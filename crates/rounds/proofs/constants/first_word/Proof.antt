@@ -4,11 +4,12 @@ use mathlib.Core.List.{List}
 use Prim.Native.Nat.{ℕ, zero-le}
 use lib.ListN.{getD}
 use Rattle.octets.proofs.Arms.{last}
-use Rattle.rounds.proofs.First.{Keys, first, first-right}
+use Rattle.rounds.specs.Keys.{firstKeys}
+use Rattle.rounds.proofs.First.{first, first-right}
 use Rattle.rounds.proofs.constants.first_word.Statement.{statement}
 use Rattle.rounds.proofs.constants.first_word.Tie as tie
 
-at : {i k : ℕ} → i ≡ k → getD first k 0 ≡ getD Keys i 0
+at : {i k : ℕ} → i ≡ k → getD first k 0 ≡ getD firstKeys i 0
 at {i} e = ap (λ (x : ℕ). getD first x 0) (sym e) ∙ ap (λ (s : List ℕ). getD s i 0) (sym first-right)
 
 pub first-word-spec : {M : Type 1} → statement M

@@ -21,9 +21,9 @@ use Rattle.card.specs.declared.Reply.{Reply}
 use Rattle.card.specs.Record.{isOpen, sound}
 use Rattle.card.specs.Keys.{smiKey, smcKey}
 use Rattle.card.specs.Calls.{strikes, first, input, shapeWrong, notListed, phaseWrong, counterFull, pinFormat, Verdict, refuses, spoils, differs, takes, orderOf, formatFits, scriptAs}
-use Rattle.trace.specs.declared.Held.{Held}
-use Rattle.trace.specs.Lines.{lastFrame, lines, octetsOf, hexadecimal, lineFor}
-use Rattle.trace.specs.Frames.{nothing, Answer, numbered, personalisedBy, starts, called as calledNow, replied}
+use Rattle.frames.specs.declared.Held.{Held}
+use Rattle.frames.specs.Lines.{lastFrame, lines, octetsOf, hexadecimal, lineFor}
+use Rattle.frames.specs.Frames.{nothing, Answer, numbered, personalisedBy, starts, called as calledNow, replied}
 
 -- "one length byte L from 0 to 127"
 unfoldable pub largest : ℕ

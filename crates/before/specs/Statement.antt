@@ -9,9 +9,9 @@ use Rattle.message.specs.Code.{codeFits}
 use Rattle.message.specs.Answers.{shaped, opened, wrapped}
 use Rattle.card.specs.declared.Card.{Card}
 use Rattle.card.specs.Calls.{step, Script}
-use Rattle.trace.specs.declared.Held.{Held}
-use Rattle.trace.specs.Lines.{lines}
-use Rattle.trace.specs.Frames.{answerTo}
+use Rattle.frames.specs.declared.Held.{Held}
+use Rattle.frames.specs.Lines.{lines}
+use Rattle.frames.specs.Frames.{answerTo}
 use Rattle.trace.specs.Traced.{traced}
 use Rattle.before.specs.Base as base
 

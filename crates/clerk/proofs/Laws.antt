@@ -10,7 +10,7 @@ use Rattle.trace.specs.declared.Filled.{Filled}
 use Rattle.trace.specs.Feeding.{afterAll, Run, run, Fills}
 use Rattle.trace.proofs.TraceLaws.{fed-fed}
 use Rattle.trace.proofs.FillLaws.{Ran, run-law}
-use Rattle.trace.proofs.FrameLaws.{rest-all}
+use Rattle.frames.proofs.FrameLaws.{rest-all}
 
 pub goes-on : (t : Trace) (s d₀ d : List ℕ) (r : Filled) → Fills (run (length d₀) t s) d₀ r d → afterAll (r .trace) (drop (r .taken) s) ≡ afterAll t s
 goes-on t s d₀ d r f =

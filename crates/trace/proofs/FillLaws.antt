@@ -13,10 +13,11 @@ use borrow.Author.Tests.{le-leb, lt-leb, leb-true, leb-false}
 use Rattle.trace.specs.declared.Trace.{Trace}
 use Rattle.trace.specs.declared.Fed.{Fed}
 use Rattle.trace.specs.declared.Filled.{Filled}
-use Rattle.trace.specs.Lines.{lineFor}
-use Rattle.trace.specs.Frames.{answerTo}
-use Rattle.trace.specs.Feeding.{padded, said, lineOf, extended, resting, completed, fedFrom, fed, ended, answerIn, afterAll, answersAll, longestAnswer, Run, runFrom, run, Fills}
-use Rattle.trace.proofs.FrameLaws.{rest-all}
+use Rattle.frames.specs.Lines.{lineFor}
+use Rattle.frames.specs.Frames.{answerTo}
+use Rattle.frames.specs.Said.{padded, said, longestAnswer}
+use Rattle.trace.specs.Feeding.{lineOf, extended, resting, completed, fedFrom, fed, ended, answerIn, afterAll, answersAll, Run, runFrom, run, Fills}
+use Rattle.frames.proofs.FrameLaws.{rest-all}
 use Rattle.trace.proofs.TraceLaws.{Split, fed-line, either}
 
 -- an answer is no longer than its array

@@ -1,6 +1,3 @@
-pub mod LineLaws
-pub mod SaidLaws
-pub mod FrameLaws
 pub mod FeedLaws
 pub mod TraceLaws
 pub mod FillLaws

@@ -1,30 +1,18 @@
 -- Feeding a trace in parts: the structs of the code. Assumes nothing.
-use Prim.Native.Nat.{ℕ, _+_, _-_}
+use Prim.Native.Nat.{ℕ, _+_}
 use mathlib.Core.Path.{_≡_}
 use mathlib.Core.Bool.{Bool, cond}
 use mathlib.Core.List.{List, [], _∷_, _++_}
 use lib.Dec.{eqb, leb}
 use lib.ListN.{length, take, drop, set, replicate}
-use Rattle.trace.specs.declared.Held.{Held}
+use Rattle.frames.specs.declared.Held.{Held}
 use Rattle.trace.specs.declared.Trace.{Trace}
 use Rattle.trace.specs.declared.Fed.{Fed}
-use Rattle.trace.specs.declared.Said.{Said}
+use Rattle.frames.specs.declared.Said.{Said}
 use Rattle.trace.specs.declared.Filled.{Filled}
-use Rattle.trace.specs.Lines.{longest, kept, lineFor}
-use Rattle.trace.specs.Frames.{nothing, Answer, answerTo}
-
--- a number, a kind, 8 bytes, and the line feed
-abbrev pub longestAnswer : ℕ
-longestAnswer = 21
-
--- a line at the start of an array of n bytes
-unfoldable pub padded : ℕ → List ℕ → List ℕ
-padded n s = s ++ replicate (n - length s) 0
-
--- an answer as a struct
-unfoldable pub said : Answer → Said
-said a =
-    record { held = a .after; count = length (lineFor (a .octets)); answer = padded longestAnswer (lineFor (a .octets)) }
+use Rattle.frames.specs.Lines.{longest, kept}
+use Rattle.frames.specs.Frames.{nothing, answerTo}
+use Rattle.frames.specs.Said.{longestAnswer, said}
 
 -- no record, and nothing read
 abbrev pub begun : Trace

@@ -1,4 +1,2 @@
-pub mod Lines
-pub mod Frames
 pub mod Traced
 pub mod Feeding

@@ -1,9 +1,9 @@
 -- The clerk's trace: from the whole input to the whole output (01, The clerk's trace). Assumes nothing.
 use Prim.Native.Nat.{ℕ}
 use mathlib.Core.List.{List, [], _∷_, _++_}
-use Rattle.trace.specs.declared.Held.{Held}
-use Rattle.trace.specs.Lines.{lines, lineFor}
-use Rattle.trace.specs.Frames.{nothing, answerTo}
+use Rattle.frames.specs.declared.Held.{Held}
+use Rattle.frames.specs.Lines.{lines, lineFor}
+use Rattle.frames.specs.Frames.{nothing, answerTo}
 
 -- "Each line is answered by one line"
 unfoldable pub answers : Held → List (List ℕ) → List ℕ

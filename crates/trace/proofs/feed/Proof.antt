@@ -3,7 +3,7 @@ use mathlib.Core.Path.{_≡_, refl}
 use native.Mathlib.Omega.{arith}
 use lib.ListN.{length, drop, take, replicate}
 use Rattle.trace.proofs.FeedLaws.{made, feed-line, feed-kept, feed-past, feed-end}
-use Rattle.trace.specs.Lines.{longest}
+use Rattle.frames.specs.Lines.{longest}
 use Rattle.trace.specs.Feeding.{fedFrom, fed}
 use borrow.Author.Needs.{needs}
 use Rattle.trace.proofs.feed.Statement.{statement}

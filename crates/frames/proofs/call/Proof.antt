@@ -1,0 +1,39 @@
+use Rattle.frames.proofs.FrameLaws.{called-1, called-2, called-3, called-4, called-5, called-6}
+use borrow.Author.Needs.{needs}
+use Rattle.frames.proofs.call.Statement.{statement}
+use Rattle.frames.proofs.call.Tie as tie
+
+returns : tie.Need-returns
+returns c = search called-1
+
+returns-2 : tie.Need-returns-2
+returns-2 c = search called-2
+
+returns-3 : tie.Need-returns-3
+returns-3 c = search called-3
+
+returns-4 : tie.Need-returns-4
+returns-4 c = search called-4
+
+returns-5 : tie.Need-returns-5
+returns-5 c = search called-5
+
+returns-6 : tie.Need-returns-6
+returns-6 c = called-6 _ _ _ _ (c .before .match .rest) (c .counter-block .ensures)
+
+pub call-spec : {M : Type 1} → statement M
+call-spec =
+    tie.close
+    (tie.spec
+    (λ c κs. search needs)
+    (λ c κs. search needs)
+    (λ c κs. search needs)
+    (λ c κs. search needs)
+    (λ c κs. search needs)
+    (λ c κs. search needs)
+    returns
+    returns-2
+    returns-3
+    returns-4
+    returns-5
+    returns-6)

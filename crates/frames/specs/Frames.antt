@@ -1,0 +1,84 @@
+-- Frames, and the answer to a line (01, The clerk's trace and Numbered refusals). Assumes nothing.
+use Prim.Native.Nat.{ℕ}
+use mathlib.Core.Bool.{Bool, true, false, not, cond}
+use mathlib.Core.List.{List, [], _∷_}
+use lib.Dec.{eqb}
+use lib.ListN.{length, take, drop, getD}
+use Rattle.octets.specs.Numbers.{be}
+use Rattle.card.specs.declared.Card.{Card}
+use Rattle.card.specs.declared.Reply.{Reply}
+use Rattle.card.specs.Record.{isOpen, sound}
+use Rattle.card.specs.Calls.{strikes, first, plain, step, Open, IssuerAnswer, Script, Close, Withdraw, Counters}
+use Rattle.card.specs.Personalise.{blank, personalised}
+use Rattle.frames.specs.declared.Held.{Held}
+use Rattle.frames.specs.Lines.{octetsOf, readable}
+
+-- a record, and none
+abbrev pub holding : Card → Held
+holding r = record { exists = true; card = r }
+
+abbrev pub nothing : Held
+nothing = record { exists = false; card = blank }
+
+-- the n bytes from a place on
+unfoldable pub part : ℕ → ℕ → List ℕ → List ℕ
+part at n s = take n (drop at s)
+
+-- what a line is answered: the record after it, if there is one, and the octets of the answer
+pub record Answer : Type 0 where
+  pub after : Held
+  pub octets : List ℕ
+
+-- the number alone
+abbrev pub numbered : Held → ℕ → Answer
+numbered h n = record { after = h; octets = n ∷ [] }
+
+-- "00 personalise (keys AC, SMI, SMC, 96 bytes, counter 2, counter block 8, mark 00 or 01, clear PIN block 8; refusals 1, then 9)"
+unfoldable pub personalisedBy : List ℕ → Reply
+personalisedBy s =
+    cond (eqb (length s) 115)
+    (personalised (part 0 32 s) (part 32 32 s) (part 64 32 s) (be (part 96 2 s)) (part 98 8 s) (getD s 106 0) (part 107 8 s))
+    (plain blank 1)
+
+-- "A second accepted 00 starts a new history"; refused, it leaves the record
+unfoldable pub starts : Held → Reply → Answer
+starts h p = cond (eqb (p .code) 0) (numbered (holding (p .card)) 0) (numbered h (p .code))
+
+-- 04 and 06 with bytes after: "phase comes first", then 1
+unfoldable pub overlong : Card → Reply
+overlong r = plain r (first (strikes (not (sound r)) 1 ∷ strikes (not (isOpen (r .transaction .phase))) 6 ∷ []) 1)
+
+-- a frame with no bytes after its first
+abbrev pub bare : List ℕ → Reply → Reply → Reply
+bare s a b = cond (eqb (length s) 0) a b
+
+-- "01 Open, 02 Issuer answer (ARPC 8, CSU 4), 03 Script, 04 Close, 05 Withdraw, 06 Counters"
+unfoldable pub called : Card → ℕ → List ℕ → Reply
+called r f s =
+    cond (eqb f 1) (step r (Open s))
+    (cond (eqb f 2) (step r (IssuerAnswer (take 8 s) (drop 8 s)))
+    (cond (eqb f 3) (step r (Script (take 4 s) (drop 4 s)))
+    (cond (eqb f 4) (bare s (step r Close) (overlong r))
+    (cond (eqb f 5) (bare s (step r Withdraw) (plain r 1)) (bare s (step r Counters) (overlong r))))))
+
+-- "the number as a byte, then for an accepted 01 80 (ARQC) or 00 (AAC) and the cryptogram, for an accepted 06 the 8 bytes"
+unfoldable pub octetsFor : ℕ → Reply → List ℕ
+octetsFor f p =
+    cond (eqb (p .code) 0)
+    (cond (eqb f 1) (0 ∷ p .kind ∷ p .bytes) (cond (eqb f 6) (0 ∷ p .bytes) (0 ∷ [])))
+    (p .code ∷ [])
+
+unfoldable pub replied : ℕ → Reply → Answer
+replied f p = record { after = holding (p .card); octets = octetsFor f p }
+
+-- "Before a record exists, frames 01 to 06 answer 6."
+unfoldable pub calling : Held → ℕ → List ℕ → Answer
+calling h f s = cond (h .exists) (replied f (called (h .card) f s)) (numbered h 6)
+
+-- a frame: its first byte, and the rest
+unfoldable pub framed : Held → ℕ → List ℕ → Answer
+framed h f s = cond (eqb f 0) (starts h (personalisedBy s)) (calling h f s)
+
+-- a line
+unfoldable pub answerTo : Held → List ℕ → Answer
+answerTo h l = cond (readable l) (framed h (getD (octetsOf l) 0 0) (drop 1 (octetsOf l))) (numbered h 13)

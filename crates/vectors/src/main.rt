@@ -168,7 +168,7 @@ fn card_key(packed: bool, key: &[u8], digits: &[u8], sequence: &[u8]) {
     answer_key(keys::card_key(key, digits, sequence[0]));
 }
 
-// The derivation with a label of its own.
+// The derivation with a label of its own; a seed of 8 bytes also under the key kept, which must agree.
 fn labelled(key: &[u8], label: &[u8], seed: &[u8]) {
     if key.len() != 32 {
         return;
@@ -183,7 +183,23 @@ fn labelled(key: &[u8], label: &[u8], seed: &[u8]) {
         i += 1;
     }
     let l = [label[0], label[1], label[2], label[3]];
-    answer(0, &derive::derive_with(derive::start(k), l, seed));
+    let x = derive::derive_with(derive::start(k), l, seed);
+    if seed.len() == 8 {
+        let s = [
+            seed[0],
+            seed[1],
+            seed[2],
+            seed[3],
+            seed[4],
+            seed[5],
+            seed[6],
+            seed[7],
+        ];
+        if !octets::same(&x, &derive::derive_kept(derive::keep(k), l, s)) {
+            return;
+        }
+    }
+    answer(0, &x);
 }
 
 // The operations of `pin`.

@@ -19,6 +19,6 @@ aheadOf c = record { core = c; keys = keysOf (c .n) (c .h) }
 unfoldable pub advancedBy : Ahead → ℕ → List ℕ → Core
 advancedBy a n m = record { h = gBy (a .keys) (a .core .h) m; n = a .core .n ⊞ vec n; sigma = a .core .sigma ⊞ m }
 
--- the hash that m ends: less than a block by the round keys, more by the core alone
+-- the hash that m ends: less than a block by the round keys, else by the core alone
 unfoldable pub endedAhead : Ahead → List ℕ → List ℕ
 endedAhead a m = cond (ltb (length m) 64) (closed (advancedBy a (8 * length m) (words (padded m)))) (ended (fed (stateOf (a .core) []) m))

@@ -9,11 +9,12 @@ use lib.Dec.{leb, eqb}
 use lib.ListN.{length, getD, take, drop, length-drop}
 use Rattle.card.specs.declared.Card.{Card}
 use Rattle.card.specs.declared.Reply.{Reply}
-use Rattle.frames.specs.declared.Held.{Held}
-use Rattle.frames.specs.Lines.{longest, lastFrame, lines, octetsOf, hexadecimal, readable, lineFor}
-use Rattle.frames.specs.Frames.{nothing, Answer, numbered, personalisedBy, starts, called, replied, calling, framed, answerTo}
-use Rattle.trace.specs.Traced.{answers, traced}
+use Rattle.lines.specs.declared.Held.{Held}
+use Rattle.lines.specs.Lines.{longest, lastFrame, lines, octetsOf, hexadecimal, readable, lineFor}
+use Rattle.lines.specs.Answers.{nothing, Answer, numbered, replied}
+use Rattle.frames.specs.Frames.{personalisedBy, starts, called, calling, framed, answerTo}
 use Rattle.frames.proofs.FrameLaws.{called-3}
+use Rattle.trace.specs.Traced.{answers, traced}
 use Rattle.before.specs.Base as base
 use Rattle.before.specs.Base.{longest as longestBefore, readable as readableBefore, called as calledBefore, calling as callingBefore, framed as framedBefore, answerTo as answerBefore, answers as answersBefore, traced as tracedBefore}
 use Rattle.before.specs.Statement.{lineBefore, noneAbove, ReadsAsBefore}

@@ -9,20 +9,22 @@ use borrow.Author.Tests.{le-leb, lt-leb}
 use lib.Dec.{leb, eqb}
 use lib.ListN.{length, getD, take, drop, length-take}
 use Rattle.octets.specs.Same.{same}
+use Rattle.shapes.specs.declared.Opened.the-variants.{Data, Refused}
+use Rattle.shapes.specs.declared.command.Listed.{Listed}
+use Rattle.shapes.specs.declared.command.Listed.the-variants.{One, Unlisted}
+use Rattle.shapes.specs.Length.{largest, largestShort, lengthOf, placeOf}
+use Rattle.shapes.specs.Shape.{tagFits, codeHead, body, bodySize, sizeOf, tagOf, dataOf, bodyOf, codeIn, shape}
+use Rattle.shapes.specs.Command.{commandOf}
+use Rattle.shapes.specs.Answers.{answer, shaped}
+use Rattle.shapes.proofs.LengthLaws.{Form, short, long, form, Says, one, two, none, says, says-short, says-long, field-short, place-short, place-long}
+use Rattle.shapes.proofs.ShapeLaws.{shape-good}
 use Rattle.pin.specs.declared.PinRead.{PinRead}
 use Rattle.pin.specs.Answers.{decipherPin}
-use Rattle.message.specs.declared.Opened.the-variants.{Data, Refused}
-use Rattle.message.specs.declared.command.Listed.{Listed}
-use Rattle.message.specs.declared.command.Listed.the-variants.{One, Unlisted}
-use Rattle.message.specs.Length.{largest, largestShort, lengthOf, placeOf}
-use Rattle.message.specs.Shape.{tagFits, codeHead, body, bodySize, sizeOf, tagOf, dataOf, bodyOf, codeIn, shape}
 use Rattle.message.specs.Code.{codeFor, message, given, codeFits}
-use Rattle.message.specs.Command.{commandOf}
-use Rattle.message.specs.Answers.{answer, shaped, openNumber, opened, laid, wrapNumber, wrapped, Written}
-use Rattle.message.proofs.LengthLaws.{Form, short, long, form, Says, one, two, none, says, says-short, says-long, field-short, place-short, place-long}
-use Rattle.message.proofs.ShapeLaws.{shape-good}
+use Rattle.message.specs.Answers.{openNumber, opened, laid, wrapNumber, wrapped, Written}
+use Rattle.transaction.specs.Transaction.{isOpen}
 use Rattle.card.specs.declared.Card.{Card}
-use Rattle.card.specs.Record.{isOpen, sound}
+use Rattle.card.specs.Record.{sound}
 use Rattle.card.specs.Keys.{smiKey, smcKey}
 use Rattle.card.specs.Calls.{Verdict, strikes, first, input, shapeWrong, phaseWrong, counterFull, pinFormat, refuses, spoils, differs, takes, orderOf, formatFits, pinIn, forCommand, inOpen, judged, scriptAs, step, Script}
 use Rattle.before.specs.Statement.{sizeBefore, WritesAsBefore}

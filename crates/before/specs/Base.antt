@@ -6,24 +6,26 @@ use mathlib.Core.List.{List, [], _∷_, _++_}
 use lib.Dec.{leb, eqb}
 use lib.ListN.{length, getD, take, drop}
 use Rattle.octets.specs.Same.{same}
+use Rattle.shapes.specs.declared.Opened.{Opened}
+use Rattle.shapes.specs.declared.Opened.the-variants.{Data, Refused}
+use Rattle.shapes.specs.declared.command.Listed.{Listed}
+use Rattle.shapes.specs.declared.command.Listed.the-variants.{One, Unlisted}
+use Rattle.shapes.specs.Shape.{tagFits, codeHead, tagOf}
+use Rattle.shapes.specs.Command.{commandOf}
 use Rattle.pin.specs.declared.PinRead.{PinRead}
 use Rattle.pin.specs.Answers.{decipherPin}
-use Rattle.message.specs.declared.Opened.{Opened}
-use Rattle.message.specs.declared.Opened.the-variants.{Data, Refused}
-use Rattle.message.specs.declared.command.Listed.{Listed}
-use Rattle.message.specs.declared.command.Listed.the-variants.{One, Unlisted}
-use Rattle.message.specs.Shape.{tagFits, codeHead, tagOf}
 use Rattle.message.specs.Code.{codeFor, given}
 use Rattle.message.specs.Answers.{laid, Written}
-use Rattle.message.specs.Command.{commandOf}
+use Rattle.transaction.specs.Transaction.{isOpen}
 use Rattle.card.specs.declared.Card.{Card}
 use Rattle.card.specs.declared.Reply.{Reply}
-use Rattle.card.specs.Record.{isOpen, sound}
+use Rattle.card.specs.Record.{sound}
 use Rattle.card.specs.Keys.{smiKey, smcKey}
 use Rattle.card.specs.Calls.{strikes, first, input, shapeWrong, notListed, phaseWrong, counterFull, pinFormat, Verdict, refuses, spoils, differs, takes, orderOf, formatFits, scriptAs}
-use Rattle.frames.specs.declared.Held.{Held}
-use Rattle.frames.specs.Lines.{lastFrame, lines, octetsOf, hexadecimal, lineFor}
-use Rattle.frames.specs.Frames.{nothing, Answer, numbered, personalisedBy, starts, called as calledNow, replied}
+use Rattle.lines.specs.declared.Held.{Held}
+use Rattle.lines.specs.Lines.{lastFrame, lines, octetsOf, hexadecimal, lineFor}
+use Rattle.lines.specs.Answers.{nothing, Answer, numbered, replied}
+use Rattle.frames.specs.Frames.{personalisedBy, starts, called as calledNow}
 
 -- "one length byte L from 0 to 127"
 unfoldable pub largest : ℕ

@@ -5,12 +5,13 @@ use mathlib.Core.Bool.{Bool, true, _&&_}
 use mathlib.Core.List.{List, [], _∷_}
 use lib.Dec.{leb}
 use lib.ListN.{length}
+use Rattle.shapes.specs.Answers.{shaped}
 use Rattle.message.specs.Code.{codeFits}
-use Rattle.message.specs.Answers.{shaped, opened, wrapped}
+use Rattle.message.specs.Answers.{opened, wrapped}
 use Rattle.card.specs.declared.Card.{Card}
 use Rattle.card.specs.Calls.{step, Script}
-use Rattle.frames.specs.declared.Held.{Held}
-use Rattle.frames.specs.Lines.{lines}
+use Rattle.lines.specs.declared.Held.{Held}
+use Rattle.lines.specs.Lines.{lines}
 use Rattle.frames.specs.Frames.{answerTo}
 use Rattle.trace.specs.Traced.{traced}
 use Rattle.before.specs.Base as base

@@ -6,9 +6,20 @@ use mathlib.Core.Path.{_≡_, refl, sym, ap, ap₂, _∙_}
 use mathlib.Core.Bool.{Bool, true, false, not, _&&_, _||_, and-false, or-true}
 use mathlib.Core.List.{List}
 use lib.Dec.{eqb}
-use lib.ListN.{length, replicate, take, drop}
+use lib.ListN.{length, take, drop}
 use borrow.Author.Tests.{eq-eqb, ne-eqb, le-leb, lt-leb, not-true, not-false}
 use Rattle.octets.specs.Same.{same}
+use Rattle.shapes.specs.declared.Opened.{Opened}
+use Rattle.shapes.specs.declared.Opened.the-variants.{Data, Refused}
+use Rattle.shapes.specs.declared.command.Command.{Command}
+use Rattle.shapes.specs.declared.command.Command.the-variants.{SetPin, SetMark, ClearMark}
+use Rattle.shapes.specs.declared.command.Listed.{Listed}
+use Rattle.shapes.specs.declared.command.Listed.the-variants.{One, Unlisted}
+use Rattle.shapes.specs.Length.{lengthOf}
+use Rattle.shapes.specs.Shape.{tagOf, dataOf, shape}
+use Rattle.shapes.specs.Command.{commandOf}
+use Rattle.shapes.specs.Answers.{shaped}
+use Rattle.shapes.proofs.AnswerLaws.{Told, told-data, told-refused}
 use Rattle.cipher.specs.declared.BlockAnswer.{BlockAnswer}
 use Rattle.cipher.specs.Answers.{enciphered}
 use Rattle.derive.specs.declared.KeyAnswer.{KeyAnswer}
@@ -17,33 +28,21 @@ use Rattle.pin.specs.declared.PinRead.{PinRead}
 use Rattle.pin.specs.declared.Counters.{Counters as CounterStruct}
 use Rattle.pin.specs.CounterBlock.{counterBlock, countersOf}
 use Rattle.pin.specs.Answers.{decipherPin, readBlock}
+use Rattle.message.specs.Code.{codeFits}
 use Rattle.cryptogram.specs.declared.Kind.{Kind}
 use Rattle.cryptogram.specs.declared.Answer.{Answer}
 use Rattle.cryptogram.specs.Answers.{cryptogramAnswer, arpcAnswer, kindNumber}
-use Rattle.message.specs.declared.Opened.{Opened}
-use Rattle.message.specs.declared.Opened.the-variants.{Data, Refused}
-use Rattle.message.specs.declared.command.Command.{Command}
-use Rattle.message.specs.declared.command.Command.the-variants.{SetPin, SetMark, ClearMark}
-use Rattle.message.specs.declared.command.Listed.{Listed}
-use Rattle.message.specs.declared.command.Listed.the-variants.{One, Unlisted}
-use Rattle.message.specs.Length.{lengthOf}
-use Rattle.message.specs.Shape.{tagOf, dataOf, shape}
-use Rattle.message.specs.Code.{codeFits}
-use Rattle.message.specs.Command.{commandOf}
-use Rattle.message.specs.Answers.{shaped}
-use Rattle.message.proofs.AnswerLaws.{Told, told-data, told-refused}
-use Rattle.card.specs.declared.Phase.{Phase}
-use Rattle.card.specs.declared.PendingMark.{PendingMark}
-use Rattle.card.specs.declared.PendingMark.the-variants.{Nothing}
-use Rattle.card.specs.declared.Transaction.{Transaction}
+use Rattle.transaction.specs.declared.PendingMark.{PendingMark}
+use Rattle.transaction.specs.declared.Transaction.{Transaction}
+use Rattle.transaction.specs.Transaction.{isOpen, none, spoilt, kindFor, begun, isArqc, markFor, markAfter}
 use Rattle.card.specs.declared.Card.{Card}
 use Rattle.card.specs.declared.Reply.{Reply}
-use Rattle.card.specs.Record.{isOpen, none, sound, Kept, kept, withTransaction, withKept, withCounters, withSession, oneFailed, spoilt}
+use Rattle.card.specs.Record.{sound, Kept, kept, withTransaction, withKept, withCounters, withSession, oneFailed}
 use Rattle.card.specs.Keys.{sessionKeyOf, smiKey, smcKey, counterKeyOf}
 use Rattle.card.specs.Calls.{plain, step, Open, IssuerAnswer, Script, Close, Withdraw, Counters}
-use Rattle.card.specs.Calls.{opening, openAs, accept, kindFor, phaseFor, begun, grown, cryptogramFor, isArqc, arpcFor, answering}
-use Rattle.card.specs.Calls.{markAfter, laid, closing, withdrawing, counting, countersFor}
-use Rattle.card.specs.Calls.{takes, newPin, newMark, markFor, pinIn, forCommand, inOpen, judged, scriptAs, pend}
+use Rattle.card.specs.Calls.{opening, openAs, accept, grown, cryptogramFor, arpcFor, answering}
+use Rattle.card.specs.Calls.{laid, closing, withdrawing, counting, countersFor}
+use Rattle.card.specs.Calls.{takes, newPin, newMark, pinIn, forCommand, inOpen, judged, scriptAs, pend}
 use Rattle.card.specs.Inner.{lastCheck}
 use Rattle.card.specs.Personalise.{blank, personalised}
 
@@ -90,10 +89,6 @@ module _ (r : Card) (k : List ℕ) (ek : k ≡ sessionKeyOf r) where
       ap (λ (y : BlockAnswer). y .bytes) (ex ∙ ap₂ (λ (y : KeyAnswer) (z : List ℕ). enciphered (y .bytes) z) (ea ∙ ap counterKey ek) eb)
 
 -- an opened transaction
-pub begun-by : (b : Bool) (g : List ℕ) (p : Phase) → p ≡ phaseFor b
-    → record { phase = p; cryptogram = g; pin = replicate 12 0; count = 0; mark = Nothing; spoilt = false } ≡ begun b g
-begun-by b g p e = ap (λ (x : Phase). record { phase = x; cryptogram = g; pin = replicate 12 0; count = 0; mark = Nothing; spoilt = false }) e
-
 pub opened-by : (r : Card) (d k : List ℕ) (kind : Kind) (x : Answer) (t : Transaction) (n : ℕ) → k ≡ sessionKeyOf (grown r) → kind ≡ kindFor (r .mark)
     → x ≡ cryptogramAnswer k kind (r .atc + 1) d → t ≡ begun (r .mark) (x .bytes) → n ≡ kindNumber kind
     → record { card = withTransaction (grown r) t; code = 0; kind = n; bytes = x .bytes } ≡ openAs r d accept

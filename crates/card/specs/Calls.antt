@@ -10,25 +10,20 @@ use Rattle.cipher.specs.Answers.{enciphered}
 use Rattle.pin.specs.declared.PinRead.{PinRead}
 use Rattle.pin.specs.CounterBlock.{counterBlock}
 use Rattle.pin.specs.Answers.{decipherPin}
-use Rattle.cryptogram.specs.declared.Kind.{Kind}
-use Rattle.cryptogram.specs.declared.Kind.the-variants as kinds
 use Rattle.cryptogram.specs.Answers.{cryptogramAnswer, arpcAnswer, kindNumber}
-use Rattle.message.specs.declared.command.Command.{Command}
-use Rattle.message.specs.declared.command.Command.the-variants.{SetPin, SetMark, ClearMark}
-use Rattle.message.specs.declared.command.Listed.{Listed}
-use Rattle.message.specs.declared.command.Listed.the-variants.{One, Unlisted}
-use Rattle.message.specs.Length.{lengthOf}
-use Rattle.message.specs.Shape.{tagOf, dataOf, shape}
+use Rattle.shapes.specs.declared.command.Command.{Command}
+use Rattle.shapes.specs.declared.command.Command.the-variants.{SetPin, SetMark, ClearMark}
+use Rattle.shapes.specs.declared.command.Listed.{Listed}
+use Rattle.shapes.specs.declared.command.Listed.the-variants.{One, Unlisted}
+use Rattle.shapes.specs.Length.{lengthOf}
+use Rattle.shapes.specs.Shape.{tagOf, dataOf, shape}
+use Rattle.shapes.specs.Command.{commandOf}
 use Rattle.message.specs.Code.{codeFits}
-use Rattle.message.specs.Command.{commandOf}
-use Rattle.card.specs.declared.Phase.{Phase}
-use Rattle.card.specs.declared.Phase.the-variants.{Idle, Arqc, Aac}
-use Rattle.card.specs.declared.PendingMark.{PendingMark}
-use Rattle.card.specs.declared.PendingMark.the-variants.{Nothing, Set, Clear}
-use Rattle.card.specs.declared.Transaction.{Transaction}
+use Rattle.transaction.specs.declared.Transaction.{Transaction}
+use Rattle.transaction.specs.Transaction.{isOpen, none, spoilt, kindFor, begun, isArqc, markFor, markAfter}
 use Rattle.card.specs.declared.Card.{Card}
 use Rattle.card.specs.declared.Reply.{Reply}
-use Rattle.card.specs.Record.{isOpen, none, sound, Kept, kept, withTransaction, withKept, withCounters, withSession, oneFailed, spoilt}
+use Rattle.card.specs.Record.{sound, Kept, kept, withTransaction, withKept, withCounters, withSession, oneFailed}
 use Rattle.card.specs.Keys.{sessionKeyOf, smiKey, smcKey, counterKeyOf}
 
 -- the rows of 01's table that a call of the card answers
@@ -74,20 +69,6 @@ opening r d =
     ∷ [])
     accept
 
--- "Kind is AAC if the kept block mark is set, else ARQC."
-abbrev pub kindFor : Bool → Kind
-kindFor true = kinds.Aac
-kindFor false = kinds.Arqc
-
-abbrev pub phaseFor : Bool → Phase
-phaseFor true = Aac
-phaseFor false = Arqc
-
--- a transaction just opened
-abbrev pub begun : Bool → List ℕ → Transaction
-begun mark cryptogram =
-    record { phase = phaseFor mark; cryptogram = cryptogram; pin = replicate 12 0; count = 0; mark = Nothing; spoilt = false }
-
 -- "counter and session counter grow by 1"
 abbrev pub grown : Card → Card
 grown r = withCounters r (r .atc + 1) (withSession (r .counters) (r .counters .session + 1))
@@ -106,12 +87,7 @@ openAs r d accept =
       bytes = cryptogramFor (grown r) d;
     }
 
--- Issuer answer: 6, 1, 11, after 1 for an unsound record. "in an open ARQC transaction"
-abbrev pub isArqc : Phase → Bool
-isArqc Idle = false
-isArqc Arqc = true
-isArqc Aac = false
-
+-- Issuer answer: 6, 1, 11, after 1 for an unsound record; the ARPC that the card expects
 unfoldable pub arpcFor : Card → List ℕ → List ℕ
 arpcFor r csu = arpcAnswer (sessionKeyOf r) (r .transaction .cryptogram) csu .bytes
 
@@ -186,10 +162,6 @@ judged r h m =
     (inOpen r h m)
 
 -- an order becomes pending
-abbrev pub markFor : Bool → PendingMark
-markFor true = Set
-markFor false = Clear
-
 abbrev pub pend : Transaction → Order → Transaction
 pend t (newPin p n) = record { phase = t .phase; cryptogram = t .cryptogram; pin = p; count = n; mark = t .mark; spoilt = t .spoilt }
 pend t (newMark b) = record { phase = t .phase; cryptogram = t .cryptogram; pin = t .pin; count = t .count; mark = markFor b; spoilt = t .spoilt }
@@ -218,11 +190,6 @@ closing r =
     closes
 
 -- "a pending PIN or mark becomes the kept one"
-abbrev pub markAfter : PendingMark → Bool → Bool
-markAfter Nothing b = b
-markAfter Set b = true
-markAfter Clear b = false
-
 unfoldable pub laid : Transaction → Kept → Kept
 laid t k =
     record { pin = cond (eqb (t .count) 0) (k .pin) (t .pin); count = cond (eqb (t .count) 0) (k .count) (t .count); mark = markAfter (t .mark) (k .mark) }

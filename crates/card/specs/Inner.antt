@@ -2,7 +2,7 @@
 use mathlib.Core.Bool.{not}
 use mathlib.Core.List.{[], _∷_}
 use Rattle.pin.specs.declared.PinRead.{PinRead}
-use Rattle.message.specs.declared.command.Command.{Command}
+use Rattle.shapes.specs.declared.command.Command.{Command}
 use Rattle.card.specs.Calls.{Verdict, spoils, takes, pinFormat, strikes, first, formatFits, orderOf}
 
 -- the last of the checks of a script

@@ -6,9 +6,9 @@ use lib.Dec.{leb, eqb}
 use lib.ListN.{replicate}
 use Rattle.pin.specs.CounterBlock.{countersOf}
 use Rattle.pin.specs.Answers.{readBlock}
+use Rattle.transaction.specs.Transaction.{none}
 use Rattle.card.specs.declared.Card.{Card}
 use Rattle.card.specs.declared.Reply.{Reply}
-use Rattle.card.specs.Record.{none}
 use Rattle.card.specs.Calls.{input, pinFormat, number, strikes, first, plain}
 
 -- no record: it has no PIN, so every call refuses it

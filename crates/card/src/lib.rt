@@ -1,46 +1,23 @@
 // The soft card: its record, and the calls, each of which takes the record and hands back the record after it.
-use cryptogram::Kind;
 use message::Command;
 use message::Listed;
 use message::Opened;
 use pin::Counters;
+pub use transaction::PendingMark;
+pub use transaction::Phase;
+pub use transaction::Transaction;
 ghost use mathlib.Core.Path.{_≡_};
-ghost use mathlib.Core.List.{List};
 ghost use Prim.Native.Nat.{_<_};
 ghost use Rattle.pin.specs.Answers.{decipherPin};
-ghost use Rattle.message.specs.Shape.{dataOf};
-ghost use Rattle.message.specs.declared.command.Command.the-variants.{SetPin};
-ghost use Rattle.message.specs.declared.command.Listed.the-variants.{One};
-ghost use Rattle.card.specs.Record.{isOpen, isUnmarked, none, pendingFits, restFits, sound, kept, withTransaction, withKept, spoilt as spoiltOf};
+ghost use Rattle.shapes.specs.Shape.{dataOf};
+ghost use Rattle.shapes.specs.declared.command.Command.the-variants.{SetPin};
+ghost use Rattle.shapes.specs.declared.command.Listed.the-variants.{One};
+ghost use Rattle.transaction.specs.Transaction.{spoilt as spoiltOf};
+ghost use Rattle.card.specs.Record.{sound, kept, withTransaction, withKept};
 ghost use Rattle.card.specs.Keys.{sessionKeyOf, smiKey, smcKey};
-ghost use Rattle.card.specs.Calls.{plain, kindFor, phaseFor, isArqc, arpcFor, countersFor, begun as begunAs, openAs, accept, newMark, takes, scriptAs, forCommand, inOpen, markFor, markAfter, laid, step, Open, IssuerAnswer, Script, Close, Withdraw, Counters as CountersCall};
+ghost use Rattle.card.specs.Calls.{plain, arpcFor, countersFor, openAs, accept, newMark, takes, scriptAs, forCommand, inOpen, laid, step, Open, IssuerAnswer, Script, Close, Withdraw, Counters as CountersCall};
 ghost use Rattle.card.specs.Inner.{lastCheck};
 ghost use Rattle.card.specs.Personalise.{blank as blankAs, personalised};
-
-// Whether a transaction is open, and of what kind.
-pub enum Phase {
-    Idle,
-    Arqc,
-    Aac,
-}
-
-// What is pending for the block mark.
-pub enum PendingMark {
-    Nothing,
-    Set,
-    Clear,
-}
-
-// A transaction: all zero where none is open.
-pub struct Transaction {
-    pub phase: Phase,
-    pub cryptogram: [u8; 8],
-    // the pending PIN and its count, zero where none is pending
-    pub pin: [u8; 12],
-    pub count: u8,
-    pub mark: PendingMark,
-    pub spoilt: bool,
-}
 
 // The record.
 pub struct Card {
@@ -67,74 +44,6 @@ pub struct Reply {
     pub bytes: [u8; 8],
 }
 
-// Whether a transaction is open.
-fn is_open(phase: Phase) -> bool
-    ensures { λ r. ⌜ r ≡ isOpen phase ⌝ }
-{
-    match phase {
-        Phase::Idle => false,
-        Phase::Arqc => true,
-        Phase::Aac => true,
-    }
-}
-
-// Whether nothing is pending for the mark.
-fn is_unmarked(mark: PendingMark) -> bool
-    ensures { λ r. ⌜ r ≡ isUnmarked mark ⌝ }
-{
-    match mark {
-        PendingMark::Nothing => true,
-        PendingMark::Set => false,
-        PendingMark::Clear => false,
-    }
-}
-
-// A transaction that is not open.
-fn no_transaction() -> Transaction
-    ensures { λ r. ⌜ r ≡ none ⌝ }
-{
-    Transaction {
-        phase: Phase::Idle,
-        cryptogram: [0; 8],
-        pin: [0; 12],
-        count: 0,
-        mark: PendingMark::Nothing,
-        spoilt: false,
-    }
-}
-
-// Whether a pending PIN is a PIN of n digits, or all zero where there are none.
-fn pending_fits(p: [u8; 12], n: u8) -> bool
-    ensures { λ r. ⌜ r ≡ pendingFits n p ⌝ }
-{
-    if n == 0 {
-        return octets::same(&p, &[0; 12]);
-    }
-    pin::pin_fits(&p, n as usize, 0)
-}
-
-// Whether the fields of a transaction are all zero where none is open; its pending PIN is looked at elsewhere.
-fn rest_fits(t: Transaction) -> bool
-    ensures { λ r. ⌜ r ≡ restFits t ⌝ }
-{
-    let phase = t.phase;
-    if is_open(phase) {
-        return true;
-    }
-    let g = t.cryptogram;
-    if !octets::same(&g, &[0; 8]) {
-        return false;
-    }
-    if t.count != 0 {
-        return false;
-    }
-    let mark = t.mark;
-    if !is_unmarked(mark) {
-        return false;
-    }
-    !t.spoilt
-}
-
 // Whether a record is sound.
 fn is_sound(c: Card) -> bool
     ensures { λ r. ⌜ r ≡ sound c ⌝ }
@@ -145,10 +54,10 @@ fn is_sound(c: Card) -> bool
     }
     let t = c.transaction;
     let q = t.pin;
-    if !pending_fits(q, t.count) {
+    if !transaction::pending_fits(q, t.count) {
         return false;
     }
-    rest_fits(t)
+    transaction::rest_fits(t)
 }
 
 // A refusal, or an acceptance without bytes.
@@ -171,34 +80,6 @@ fn spoiled(mut c: Card, code: u8) -> Reply
     t.spoilt = true;
     c.transaction = t;
     plainly(c, code)
-}
-
-// The kind of the cryptogram that a card answers with, by its block mark.
-fn kind_for(mark: bool) -> Kind
-    ensures { λ r. ⌜ r ≡ kindFor mark ⌝ }
-{
-    if mark { Kind::Aac } else { Kind::Arqc }
-}
-
-// The phase of the transaction that it opens.
-fn phase_for(mark: bool) -> Phase
-    ensures { λ r. ⌜ r ≡ phaseFor mark ⌝ }
-{
-    if mark { Phase::Aac } else { Phase::Arqc }
-}
-
-// A transaction just opened.
-fn begun(mark: bool, cryptogram: [u8; 8]) -> Transaction
-    ensures { λ r. ⌜ r ≡ begunAs mark cryptogram ⌝ }
-{
-    Transaction {
-        phase: phase_for(mark),
-        cryptogram,
-        pin: [0; 12],
-        count: 0,
-        mark: PendingMark::Nothing,
-        spoilt: false,
-    }
 }
 
 // The session keys of the transaction: for cryptograms, for codes, for secrecy.
@@ -267,22 +148,12 @@ fn laid_pin(mut c: Card, t: Transaction) -> Card
     c
 }
 
-fn mark_after(mark: PendingMark, b: bool) -> bool
-    ensures { λ r. ⌜ r ≡ markAfter mark b ⌝ }
-{
-    match mark {
-        PendingMark::Nothing => b,
-        PendingMark::Set => true,
-        PendingMark::Clear => false,
-    }
-}
-
 fn lay(c: Card, t: Transaction) -> Card
     ensures { λ r. ⌜ r ≡ withKept c (laid t (kept c)) ⌝ }
 {
     let mut d = laid_pin(c, t);
     let mark = t.mark;
-    d.mark = mark_after(mark, d.mark);
+    d.mark = transaction::mark_after(mark, d.mark);
     d
 }
 
@@ -296,26 +167,15 @@ fn opened(mut c: Card, input: &[u8]) -> Reply
     n.session += 1;
     c.counters = n;
     let key = session_key(c);
-    let kind = kind_for(c.mark);
+    let kind = transaction::kind_for(c.mark);
     let g = cryptogram::cryptogram(&key, kind, c.atc, input);
     let bytes = g.bytes;
-    c.transaction = begun(c.mark, bytes);
+    c.transaction = transaction::begun(c.mark, bytes);
     Reply {
         card: c,
         code: 0,
         kind: cryptogram::kind_number(kind),
         bytes,
-    }
-}
-
-// The pending mark that a command orders.
-fn mark_for(set: bool) -> PendingMark
-    ensures { λ r. ⌜ r ≡ markFor set ⌝ }
-{
-    if set {
-        PendingMark::Set
-    } else {
-        PendingMark::Clear
     }
 }
 
@@ -332,7 +192,7 @@ fn take_mark(mut c: Card, set: bool) -> Reply
         cryptogram,
         pin: p,
         count: t.count,
-        mark: mark_for(set),
+        mark: transaction::mark_for(set),
         spoilt: t.spoilt,
     };
     c.transaction = u;
@@ -404,17 +264,6 @@ fn judge(c: Card, header: &[u8], message: &[u8]) -> Reply
     obey(c, command, header, message, &message[place..end])
 }
 
-// Whether an ARQC transaction is open.
-fn is_arqc(phase: Phase) -> bool
-    ensures { λ r. ⌜ r ≡ isArqc phase ⌝ }
-{
-    match phase {
-        Phase::Idle => false,
-        Phase::Arqc => true,
-        Phase::Aac => false,
-    }
-}
-
 // No record: every call refuses it.
 fn blank() -> Card
     ensures { λ r. ⌜ r ≡ blankAs ⌝ }
@@ -433,7 +282,7 @@ fn blank() -> Card
             decipherments: 0,
             authentications: 0,
         },
-        transaction: no_transaction(),
+        transaction: transaction::no_transaction(),
     }
 }
 
@@ -467,7 +316,7 @@ impl Card {
             mark: mark == 1,
             atc,
             counters: pin::read_counters(counters),
-            transaction: no_transaction(),
+            transaction: transaction::no_transaction(),
         };
         plainly(card, 0)
     }
@@ -481,7 +330,7 @@ impl Card {
         }
         let t = self.transaction;
         let phase = t.phase;
-        if is_open(phase) {
+        if transaction::is_open(phase) {
             return plainly(self, 6);
         }
         if input.len() != 65 {
@@ -506,7 +355,7 @@ impl Card {
         }
         let t = self.transaction;
         let phase = t.phase;
-        if !is_arqc(phase) {
+        if !transaction::is_arqc(phase) {
             return plainly(self, 6);
         }
         if arpc.len() != 8 {
@@ -534,7 +383,7 @@ impl Card {
         }
         let t = self.transaction;
         let phase = t.phase;
-        if !is_open(phase) {
+        if !transaction::is_open(phase) {
             return plainly(self, 6);
         }
         judge(self, header, message)
@@ -549,15 +398,15 @@ impl Card {
         }
         let t = self.transaction;
         let phase = t.phase;
-        if !is_open(phase) {
+        if !transaction::is_open(phase) {
             return plainly(self, 6);
         }
         if t.spoilt {
-            self.transaction = no_transaction();
+            self.transaction = transaction::no_transaction();
             return plainly(self, 10);
         }
         let mut d = lay(self, t);
-        d.transaction = no_transaction();
+        d.transaction = transaction::no_transaction();
         plainly(d, 0)
     }
 
@@ -568,7 +417,7 @@ impl Card {
         if !is_sound(self) {
             return plainly(self, 1);
         }
-        let rest = no_transaction();
+        let rest = transaction::no_transaction();
         self.transaction = rest;
         plainly(self, 0)
     }
@@ -582,7 +431,7 @@ impl Card {
         }
         let t = self.transaction;
         let phase = t.phase;
-        if !is_open(phase) {
+        if !transaction::is_open(phase) {
             return plainly(self, 6);
         }
         let bytes = counters_for(self);

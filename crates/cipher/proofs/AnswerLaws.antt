@@ -5,9 +5,9 @@ use mathlib.Core.List.{List}
 use Prim.Native.Nat.{ℕ, _%_}
 use borrow.Author.Tests.{eq-eqb, ne-eqb}
 use lib.ListN.{length}
-use Rattle.cipher.specs.Gost.{subkeys}
-use Rattle.cipher.specs.Code.{codeOf}
 use Rattle.octets.specs.Lengths.{keyFits}
+use Rattle.gost.specs.Gost.{subkeys}
+use Rattle.cipher.specs.Code.{codeOf}
 use Rattle.cipher.specs.Answers.{blockFits, stringFits, noBlock, noCode, blockAnswer, codedWith, coded}
 
 module _ (key b x : List ℕ) where

@@ -1,71 +1,26 @@
--- A block enciphered and deciphered, and the other way round, is the block, under every key. Assumes nothing.
-use mathlib.Core.Path.{_≡_, refl, sym, ap, _∙_}
+-- A block enciphered and deciphered, and the other way round, is answered as it was, under every key of 32 octets. Assumes nothing.
+use mathlib.Core.Path.{_≡_, sym, ap, _∙_}
 use Prim.Native.Nat.{ℕ}
-use mathlib.Core.List.{List, reverse}
+use mathlib.Core.List.{List}
 use lib.ListN.{length}
 use Rattle.octets.specs.Numbers.{Octets}
-use Rattle.cipher.specs.declared.Halves.{Halves}
+use Rattle.gost.specs.Gost.{encipher, decipher}
+use Rattle.gost.proofs.Inverse.{length-encipher, length-decipher, decipher-encipher, encipher-decipher}
 use Rattle.cipher.specs.declared.BlockAnswer.{BlockAnswer}
-use Rattle.cipher.specs.Gost.{rounds, exchanged, halves, block, through, forth, back, subkeys, encipher, decipher}
 use Rattle.cipher.specs.Answers.{enciphered, deciphered}
 use Rattle.cipher.proofs.AnswerLaws.{fits}
-use Rattle.cipher.proofs.Rounds.{rounds-back, rounds-words, exchanged-words, reverse-forth, reverse-back}
-use Rattle.cipher.proofs.Octets.{length-block, halves-block, halves-words, block-halves}
-
-exchanged-twice : (s : Halves) → exchanged (exchanged s) ≡ s
-unfolding exchanged
-exchanged-twice s = refl
-
-length-through : (ks b : List ℕ) → length (through ks b) ≡ 8
-unfolding through
-length-through ks b = length-block (exchanged (rounds ks (halves b)))
-
-pub length-encipher : (key b : List ℕ) → length (encipher key b) ≡ 8
-unfolding encipher
-length-encipher key b = length-through (forth (subkeys 8 key)) b
-
-pub length-decipher : (key b : List ℕ) → length (decipher key b) ≡ 8
-unfolding decipher
-length-decipher key b = length-through (back (subkeys 8 key)) b
 
 module _ (b : List ℕ) (e : length b ≡ 8) (o : Octets b) where
-  -- through the rounds, and through the rounds in the other order
-  undone : (xs ys : List ℕ) → reverse xs ≡ ys → through ys (through xs b) ≡ b
-  unfolding through
-  undone xs ys r =
-      let s : Halves = rounds xs (halves b) in
-      ap (λ (t : Halves). block (exchanged (rounds ys t)))
-      (halves-block (exchanged s) (exchanged-words s (rounds-words xs (halves b) (halves-words b e o))))
-      ∙ ap (λ (zs : List ℕ). block (exchanged (rounds zs (exchanged s)))) (sym r)
-      ∙ ap (λ (t : Halves). block (exchanged t)) (rounds-back xs (halves b))
-      ∙ ap block (exchanged-twice (halves b))
-      ∙ block-halves b e o
-
-  pub deciphered-with : (ks : List ℕ) → through (back ks) (through (forth ks) b) ≡ b
-  deciphered-with ks = undone (forth ks) (back ks) (reverse-forth ks)
-
-  pub enciphered-with : (ks : List ℕ) → through (forth ks) (through (back ks) b) ≡ b
-  enciphered-with ks = undone (back ks) (forth ks) (reverse-back ks)
-
-  pub decipher-encipher : (key : List ℕ) → decipher key (encipher key b) ≡ b
-  unfolding decipher encipher
-  decipher-encipher key = deciphered-with (subkeys 8 key)
-
-  pub encipher-decipher : (key : List ℕ) → encipher key (decipher key b) ≡ b
-  unfolding decipher encipher
-  encipher-decipher key = enciphered-with (subkeys 8 key)
-
-  -- the same of the answers
   pub deciphered-enciphered : (key : List ℕ) → length key ≡ 32 → deciphered key (enciphered key b .bytes) ≡ record { code = 0; bytes = b }
   unfolding deciphered enciphered
   deciphered-enciphered key k =
       ap (λ (a : BlockAnswer). deciphered key (a .bytes)) (sym (fits key b (encipher key b) k e))
       ∙ sym (fits key (encipher key b) (decipher key (encipher key b)) k (length-encipher key b))
-      ∙ ap (λ (x : List ℕ). record { code = 0; bytes = x }) (decipher-encipher key)
+      ∙ ap (λ (x : List ℕ). record { code = 0; bytes = x }) (decipher-encipher b e o key)
 
   pub enciphered-deciphered : (key : List ℕ) → length key ≡ 32 → enciphered key (deciphered key b .bytes) ≡ record { code = 0; bytes = b }
   unfolding deciphered enciphered
   enciphered-deciphered key k =
       ap (λ (a : BlockAnswer). enciphered key (a .bytes)) (sym (fits key b (decipher key b) k e))
       ∙ sym (fits key (decipher key b) (encipher key (decipher key b)) k (length-decipher key b))
-      ∙ ap (λ (x : List ℕ). record { code = 0; bytes = x }) (encipher-decipher key)
+      ∙ ap (λ (x : List ℕ). record { code = 0; bytes = x }) (encipher-decipher b e o key)

@@ -5,9 +5,9 @@ use mathlib.Core.List.{List}
 use lib.Dec.{eqb}
 use lib.ListN.{length, replicate}
 use Rattle.octets.specs.Lengths.{keyFits}
+use Rattle.gost.specs.Gost.{subkeys, encipher, decipher}
 use Rattle.cipher.specs.declared.BlockAnswer.{BlockAnswer}
 use Rattle.cipher.specs.declared.CodeAnswer.{CodeAnswer}
-use Rattle.cipher.specs.Gost.{subkeys, encipher, decipher}
 use Rattle.cipher.specs.Code.{codeOf}
 
 -- 01: a block is 8 bytes; "a string for the code" is one or more whole blocks, else 1

@@ -5,8 +5,8 @@ use mathlib.Core.List.{List, _++_}
 use lib.Bits.{bitXor}
 use Rattle.octets.specs.Numbers.{leOctets}
 use Rattle.blocks.specs.Blocks.{absorbed}
-use Rattle.cipher.specs.declared.Halves.{Halves}
-use Rattle.cipher.specs.Gost.{rounds, halves}
+use Rattle.gost.specs.declared.Halves.{Halves}
+use Rattle.gost.specs.Gost.{rounds, halves}
 
 -- two states added modulo 2
 unfoldable pub added : Halves → Halves → Halves

@@ -1,3 +1,2 @@
-pub mod Gost
 pub mod Code
 pub mod Answers

@@ -4,7 +4,7 @@ ghost use Prim.Native.Nat.{_≤_};
 ghost use lib.ListN.{length};
 ghost use mathlib.Core.Path.{_≡_};
 ghost use mathlib.Core.Bool.{true};
-ghost use Rattle.frames.specs.Said.{longestAnswer};
+ghost use Rattle.lines.specs.Said.{longestAnswer};
 ghost use Rattle.trace.specs.Feeding.{afterAll};
 use libc::STDIN_FILENO;
 use libc::STDOUT_FILENO;

@@ -6,9 +6,9 @@ use Prim.Native.Nat.{ℕ}
 use native.Mathlib.Omega.{arith}
 use borrow.Author.Tests.{eq-eqb, ne-eqb}
 use lib.ListN.{length}
-use Rattle.cipher.specs.declared.CodeAnswer.{CodeAnswer}
-use Rattle.cipher.specs.Gost.{subkeys}
 use Rattle.octets.specs.Lengths.{keyFits}
+use Rattle.gost.specs.Gost.{subkeys}
+use Rattle.cipher.specs.declared.CodeAnswer.{CodeAnswer}
 use Rattle.cipher.specs.Answers.{coded, codedWith}
 use Rattle.cipher.proofs.AnswerLaws.{string-fits, code-key}
 use Rattle.cryptogram.specs.declared.Kind.{Kind}

@@ -4,7 +4,7 @@ use mathlib.Core.Bool.{_&&_, cond}
 use mathlib.Core.List.{List}
 use lib.Dec.{eqb}
 use lib.ListN.{length, replicate}
-use Rattle.cipher.specs.Gost.{subkeys}
+use Rattle.gost.specs.Gost.{subkeys}
 use Rattle.octets.specs.Lengths.{keyFits}
 use Rattle.cryptogram.specs.declared.Answer.{Answer}
 use Rattle.cryptogram.specs.declared.Kind.{Kind}

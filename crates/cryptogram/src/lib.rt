@@ -2,7 +2,7 @@
 ghost use mathlib.Core.Path.{_≡_};
 ghost use mathlib.Core.List.{_∷_, _++_};
 ghost use lib.ListN.{length, replicate};
-ghost use Rattle.cipher.specs.Gost.{subkeys};
+ghost use Rattle.gost.specs.Gost.{subkeys};
 ghost use Rattle.cryptogram.specs.Data.{marked};
 ghost use Rattle.cryptogram.specs.Cryptogram.{twice as written_twice, doubleCode, string, cryptogramOf, arpcString, arpcOf};
 ghost use Rattle.cryptogram.specs.Answers.{no, cryptogramAnswer, arpcAnswer, kindNumber, kindOf};

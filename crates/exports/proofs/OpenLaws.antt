@@ -4,15 +4,16 @@ use mathlib.Core.Bool.{Bool, true, false}
 use mathlib.Core.List.{List, [], _∷_}
 use Prim.Native.Nat.{ℕ, _%_}
 use native.Mathlib.Omega.{arith}
-use Rattle.message.specs.declared.Opened.{Opened}
-use Rattle.message.specs.declared.Opened.the-variants.{Data, Refused}
-use Rattle.message.specs.Shape.{shape, tagOf}
-use Rattle.message.specs.Length.{lengthOf, placeOf}
+use Rattle.shapes.specs.declared.Opened.{Opened}
+use Rattle.shapes.specs.declared.Opened.the-variants.{Data, Refused}
+use Rattle.shapes.specs.Shape.{shape, tagOf}
+use Rattle.shapes.specs.Length.{lengthOf, placeOf}
+use Rattle.shapes.specs.Answers.{answer, shaped, number, values}
+use Rattle.shapes.proofs.AnswerLaws.{Told, told-data, shaped-good}
 use Rattle.message.specs.Code.{given, codeFits}
-use Rattle.message.specs.Answers.{answer, shaped, openNumber, opened, number, values}
+use Rattle.message.specs.Answers.{openNumber, opened}
 use Rattle.exports.specs.Lent.{Given, GivenOpened}
 use Rattle.exports.proofs.GiveLaws.{given-any}
-use Rattle.message.proofs.AnswerLaws.{Told, told-data, shaped-good}
 
 module _ (key header m : List ℕ) where
   found : given key header ≡ true → shape m ≡ true → codeFits key header m ≡ true → opened key header m ≡ Data (tagOf m) (placeOf (lengthOf m)) (lengthOf m)

@@ -15,8 +15,8 @@ use Rattle.cryptogram.specs.declared.Answer.{Answer}
 use Rattle.cryptogram.specs.declared.KindRead.{KindRead}
 use Rattle.cryptogram.specs.declared.KindRead.the-variants.{Known, Unknown}
 use Rattle.cryptogram.specs.Answers.{cryptogramAnswer, no}
-use Rattle.message.specs.declared.Opened.{Opened}
-use Rattle.message.specs.Answers.{number, values}
+use Rattle.shapes.specs.declared.Opened.{Opened}
+use Rattle.shapes.specs.Answers.{number, values}
 
 -- the number returned: 1 for a lent slice that is not n bytes long, else the answer's own
 unfoldable pub numberOf : ℕ → ℕ → List ℕ → ℕ

@@ -13,21 +13,18 @@ use borrow.Author.Tests.{eq-eqb, ne-eqb, le-leb, lt-leb, eqb-true, eqb-false, no
 use Rattle.octets.specs.Numbers.{be}
 use Rattle.octets.proofs.Arms.{None}
 use Rattle.octets.proofs.Parts.{elements-part}
+use Rattle.transaction.specs.Transaction.{isOpen}
 use Rattle.card.specs.declared.Card.{Card}
 use Rattle.card.specs.declared.Reply.{Reply}
-use Rattle.card.specs.Record.{isOpen, sound}
+use Rattle.card.specs.Record.{sound}
 use Rattle.card.specs.Calls.{plain, step, closing, Open, IssuerAnswer, Script, Close, Withdraw, Counters}
 use Rattle.card.specs.Personalise.{personalised}
-use Rattle.frames.specs.declared.Held.{Held}
-use Rattle.frames.specs.declared.Said.{Said}
-use Rattle.frames.specs.Lines.{longest, kept, lastFrame, legible, hexadecimal, octetsOf, readable}
-use Rattle.frames.specs.Frames.{Answer, holding, nothing, numbered, part, personalisedBy, starts, overlong, bare, called, replied, calling, framed, answerTo}
-use Rattle.frames.specs.Said.{said}
-
--- no record: what a refused personalisation gives
-pub none-made : (z y : List ℕ) (p : Reply) → p ≡ personalised z z z 0 y 2 y → _≡_ {A = Held} (record { exists = false; card = p .card }) nothing
-unfolding personalised
-none-made z y p e = ap (λ (q : Reply). record { exists = false; card = q .card }) e
+use Rattle.lines.specs.declared.Held.{Held}
+use Rattle.lines.specs.declared.Said.{Said}
+use Rattle.lines.specs.Lines.{longest, kept, lastFrame, legible, hexadecimal, octetsOf, readable}
+use Rattle.lines.specs.Answers.{Answer, holding, numbered, replied}
+use Rattle.lines.specs.Said.{said}
+use Rattle.frames.specs.Frames.{part, personalisedBy, starts, overlong, bare, called, calling, framed, answerTo}
 
 -- 00
 pub fresh-made : (s ac smi smc cs b : List ℕ) (atc : ℕ) (p : Reply) → length s ≡ 115

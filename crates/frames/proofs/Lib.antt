@@ -1,3 +1,2 @@
-pub mod LineLaws
-pub mod SaidLaws
+pub mod PartLaws
 pub mod FrameLaws

@@ -1,37 +1,23 @@
 -- Frames, and the answer to a line (01, The clerk's trace and Numbered refusals). Assumes nothing.
 use Prim.Native.Nat.{ℕ}
-use mathlib.Core.Bool.{Bool, true, false, not, cond}
+use mathlib.Core.Bool.{not, cond}
 use mathlib.Core.List.{List, [], _∷_}
 use lib.Dec.{eqb}
 use lib.ListN.{length, take, drop, getD}
 use Rattle.octets.specs.Numbers.{be}
+use Rattle.transaction.specs.Transaction.{isOpen}
 use Rattle.card.specs.declared.Card.{Card}
 use Rattle.card.specs.declared.Reply.{Reply}
-use Rattle.card.specs.Record.{isOpen, sound}
+use Rattle.card.specs.Record.{sound}
 use Rattle.card.specs.Calls.{strikes, first, plain, step, Open, IssuerAnswer, Script, Close, Withdraw, Counters}
 use Rattle.card.specs.Personalise.{blank, personalised}
-use Rattle.frames.specs.declared.Held.{Held}
-use Rattle.frames.specs.Lines.{octetsOf, readable}
-
--- a record, and none
-abbrev pub holding : Card → Held
-holding r = record { exists = true; card = r }
-
-abbrev pub nothing : Held
-nothing = record { exists = false; card = blank }
+use Rattle.lines.specs.declared.Held.{Held}
+use Rattle.lines.specs.Lines.{octetsOf, readable}
+use Rattle.lines.specs.Answers.{holding, Answer, numbered, replied}
 
 -- the n bytes from a place on
 unfoldable pub part : ℕ → ℕ → List ℕ → List ℕ
 part at n s = take n (drop at s)
-
--- what a line is answered: the record after it, if there is one, and the octets of the answer
-pub record Answer : Type 0 where
-  pub after : Held
-  pub octets : List ℕ
-
--- the number alone
-abbrev pub numbered : Held → ℕ → Answer
-numbered h n = record { after = h; octets = n ∷ [] }
 
 -- "00 personalise (keys AC, SMI, SMC, 96 bytes, counter 2, counter block 8, mark 00 or 01, clear PIN block 8; refusals 1, then 9)"
 unfoldable pub personalisedBy : List ℕ → Reply
@@ -60,16 +46,6 @@ called r f s =
     (cond (eqb f 3) (step r (Script (take 4 s) (drop 4 s)))
     (cond (eqb f 4) (bare s (step r Close) (overlong r))
     (cond (eqb f 5) (bare s (step r Withdraw) (plain r 1)) (bare s (step r Counters) (overlong r))))))
-
--- "the number as a byte, then for an accepted 01 80 (ARQC) or 00 (AAC) and the cryptogram, for an accepted 06 the 8 bytes"
-unfoldable pub octetsFor : ℕ → Reply → List ℕ
-octetsFor f p =
-    cond (eqb (p .code) 0)
-    (cond (eqb f 1) (0 ∷ p .kind ∷ p .bytes) (cond (eqb f 6) (0 ∷ p .bytes) (0 ∷ [])))
-    (p .code ∷ [])
-
-unfoldable pub replied : ℕ → Reply → Answer
-replied f p = record { after = holding (p .card); octets = octetsFor f p }
 
 -- "Before a record exists, frames 01 to 06 answer 6."
 unfoldable pub calling : Held → ℕ → List ℕ → Answer

@@ -7,21 +7,22 @@ use lib.ListN.{length}
 use lib.Dec.{eqb}
 use borrow.Author.Tests.{eqb-true, eqb-false}
 use Rattle.octets.specs.Same.{same}
-use Rattle.message.specs.declared.command.Command.{Command}
-use Rattle.message.specs.declared.command.Listed.{Listed}
-use Rattle.message.specs.declared.command.Listed.the-variants.{One, Unlisted}
-use Rattle.message.specs.Length.{lengthOf}
-use Rattle.message.specs.Shape.{tagOf, shape}
+use Rattle.shapes.specs.declared.command.Command.{Command}
+use Rattle.shapes.specs.declared.command.Listed.{Listed}
+use Rattle.shapes.specs.declared.command.Listed.the-variants.{One, Unlisted}
+use Rattle.shapes.specs.Length.{lengthOf}
+use Rattle.shapes.specs.Shape.{tagOf, shape}
+use Rattle.shapes.specs.Command.{commandOf}
 use Rattle.message.specs.Code.{codeFits}
-use Rattle.message.specs.Command.{commandOf}
-use Rattle.card.specs.declared.Phase.{Phase}
-use Rattle.card.specs.declared.Phase.the-variants.{Idle, Arqc, Aac}
+use Rattle.transaction.specs.declared.Phase.{Phase}
+use Rattle.transaction.specs.declared.Phase.the-variants.{Idle, Arqc, Aac}
+use Rattle.transaction.specs.Transaction.{isOpen, none, isArqc}
 use Rattle.card.specs.declared.Card.{Card}
 use Rattle.card.specs.declared.Reply.{Reply}
-use Rattle.card.specs.Record.{isOpen, none, sound, withTransaction}
+use Rattle.card.specs.Record.{sound, withTransaction}
 use Rattle.card.specs.Keys.{smiKey}
 use Rattle.card.specs.Calls.{Refusal, input, shapeWrong, notListed, phaseWrong, counterFull, codeDiffers, pinFormat, arpcDiffers, number, strikes, first, plain}
-use Rattle.card.specs.Calls.{Judgment, refuse, accept, opening, openAs, isArqc, arpcFor, answering, answerAs, withdrawing, counting, countersAs}
+use Rattle.card.specs.Calls.{Judgment, refuse, accept, opening, openAs, arpcFor, answering, answerAs, withdrawing, counting, countersAs}
 use Rattle.card.specs.Calls.{Verdict, refuses, spoils, differs, takes, orderOf, formatFits, pinIn, forCommand, inOpen, judged, scriptAs}
 use Rattle.card.specs.Calls.{Closing, stays, drops, closes, closing, closeAs}
 use Rattle.card.specs.Calls.{Call, Open, IssuerAnswer, Script, Close, Withdraw, Counters, step}

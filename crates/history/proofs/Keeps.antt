@@ -9,24 +9,25 @@ use native.Mathlib.Omega.{arith}
 use borrow.Author.Tests.{not-true, eqb-true, eqb-false, ne-eqb, leb-true}
 use Rattle.octets.specs.Same.{same}
 use Rattle.octets.proofs.SameLaws.{same-true}
-use Rattle.message.specs.declared.command.Command.{Command}
-use Rattle.message.specs.declared.command.Command.the-variants.{SetPin, SetMark, ClearMark}
+use Rattle.shapes.specs.declared.command.Command.{Command}
+use Rattle.shapes.specs.declared.command.Command.the-variants.{SetPin, SetMark, ClearMark}
 use Rattle.pin.specs.declared.PinRead.{PinRead}
 use Rattle.pin.specs.PinBlock.{pinFits}
 use Rattle.pin.specs.Answers.{readBlock, decipherPin}
 use Rattle.pin.proofs.BlockLaws.{fits}
 use Rattle.pin.proofs.FoundLaws.{read-fits, deciphered-fits}
-use Rattle.card.specs.declared.Phase.{Phase}
-use Rattle.card.specs.declared.Phase.the-variants.{Idle, Arqc, Aac}
-use Rattle.card.specs.declared.PendingMark.{PendingMark}
-use Rattle.card.specs.declared.PendingMark.the-variants.{Nothing, Set, Clear}
-use Rattle.card.specs.declared.Transaction.{Transaction}
+use Rattle.transaction.specs.declared.Phase.{Phase}
+use Rattle.transaction.specs.declared.Phase.the-variants.{Idle, Arqc, Aac}
+use Rattle.transaction.specs.declared.PendingMark.{PendingMark}
+use Rattle.transaction.specs.declared.PendingMark.the-variants.{Nothing, Set, Clear}
+use Rattle.transaction.specs.declared.Transaction.{Transaction}
+use Rattle.transaction.specs.Transaction.{isOpen, isUnmarked, none, pendingFits, restFits, phaseFor}
 use Rattle.card.specs.declared.Card.{Card}
 use Rattle.card.specs.declared.Reply.{Reply}
-use Rattle.card.specs.Record.{isOpen, isUnmarked, none, pendingFits, restFits, sound, kept, withTransaction, withKept}
+use Rattle.card.specs.Record.{sound, kept, withTransaction, withKept}
 use Rattle.card.specs.Keys.{smcKey}
 use Rattle.card.specs.Calls.{Order, newPin, newMark, orderOf, formatFits, pinIn, pend, laid, opening, answering, judged, closing, withdrawing, counting, plain}
-use Rattle.card.specs.Calls.{phaseFor, Call, Open, IssuerAnswer, Script, Close, Withdraw, Counters}
+use Rattle.card.specs.Calls.{Call, Open, IssuerAnswer, Script, Close, Withdraw, Counters}
 use Rattle.card.specs.Personalise.{blank, fresh, personalised}
 use Rattle.history.proofs.Own.{box, run}
 use Rattle.history.specs.Demand2.{Accepts, ordered}

@@ -4,11 +4,12 @@ use mathlib.Core.Path.{_≡_, refl, sym, ap, _∙_}
 use mathlib.Core.List.{List, [], _∷_, _++_}
 use mathlib.Core.Bool.{Bool, true, false, not, _&&_, _||_, cond, or-true, true≢false, false≢true}
 use lib.Dec.{eqb}
-use Rattle.card.specs.declared.Transaction.{Transaction}
+use Rattle.transaction.specs.declared.Transaction.{Transaction}
+use Rattle.transaction.specs.Transaction.{isOpen, none, phaseFor}
 use Rattle.card.specs.declared.Card.{Card}
 use Rattle.card.specs.declared.Reply.{Reply}
-use Rattle.card.specs.Record.{isOpen, none, sound, Kept, kept, withTransaction}
-use Rattle.card.specs.Calls.{Refusal, number, Order, newPin, newMark, pend, laid, phaseFor, opening, answering, withdrawing, counting, openAs, answerAs, withdrawAs, countersAs, Judgment, refuse, accept}
+use Rattle.card.specs.Record.{sound, Kept, kept, withTransaction}
+use Rattle.card.specs.Calls.{Refusal, number, Order, newPin, newMark, pend, laid, opening, answering, withdrawing, counting, openAs, answerAs, withdrawAs, countersAs, Judgment, refuse, accept}
 use Rattle.card.specs.Calls.{Verdict, refuses, spoils, differs, takes, judged, scriptAs}
 use Rattle.card.specs.Calls.{Closing, stays, drops, closes, closing, closeAs}
 use Rattle.card.specs.Calls.{Call, Open, IssuerAnswer, Script, Close, Withdraw, Counters, step}

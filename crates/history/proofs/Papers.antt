@@ -11,8 +11,8 @@ use Rattle.octets.specs.Same.{same}
 use Rattle.octets.proofs.SameLaws.{same-refl, same-true}
 use Rattle.octets.proofs.NumberLaws.{length-beOctets}
 use Rattle.octets.specs.Numbers.{beOctets}
+use Rattle.gost.specs.Gost.{subkeys, encipher}
 use Rattle.cipher.specs.declared.BlockAnswer.{BlockAnswer}
-use Rattle.cipher.specs.Gost.{subkeys, encipher}
 use Rattle.cipher.specs.Answers.{enciphered}
 use Rattle.cipher.proofs.AnswerLaws as ciphers
 use Rattle.hash.specs.Hash.{hash256}
@@ -27,18 +27,19 @@ use Rattle.keys.specs.Answers.{sessionKey, scriptKey, counterKey}
 use Rattle.keys.proofs.AnswerLaws.{counter-yes}
 use Rattle.pin.specs.declared.Counters.{Counters as CounterStruct}
 use Rattle.pin.specs.CounterBlock.{counterBlock}
+use Rattle.message.proofs.Return as returns
 use Rattle.cryptogram.specs.declared.Kind.{Kind}
 use Rattle.cryptogram.specs.declared.Answer.{Answer}
 use Rattle.cryptogram.specs.Cryptogram.{cryptogramOf, arpcOf}
 use Rattle.cryptogram.specs.Answers.{cryptogramAnswer, arpcAnswer, yes as answer-made}
 use Rattle.cryptogram.proofs.AnswerLaws.{made, arpc-made}
-use Rattle.message.proofs.Return as returns
+use Rattle.transaction.specs.Transaction.{isOpen, kindFor, isArqc}
 use Rattle.card.specs.declared.Card.{Card}
 use Rattle.card.specs.declared.Reply.{Reply}
-use Rattle.card.specs.Record.{isOpen, sound}
+use Rattle.card.specs.Record.{sound}
 use Rattle.card.specs.Keys.{sessionKeyOf, smiKey, smcKey, counterKeyOf}
-use Rattle.card.specs.Calls.{input, phaseWrong, counterFull, arpcDiffers, strikes, first, refuse, accept, opening, openAs, grown, kindFor, cryptogramFor}
-use Rattle.card.specs.Calls.{isArqc, arpcFor, answering, answerAs, counting, countersAs, countersFor, Open, IssuerAnswer, Counters}
+use Rattle.card.specs.Calls.{input, phaseWrong, counterFull, arpcDiffers, strikes, first, refuse, accept, opening, openAs, grown, cryptogramFor}
+use Rattle.card.specs.Calls.{arpcFor, answering, answerAs, counting, countersAs, countersFor, Open, IssuerAnswer, Counters}
 use Rattle.history.proofs.Own.{box}
 use Rattle.history.specs.Boxes.{OurCryptogram}
 use Rattle.history.specs.Demand2.{cryptogramKey, Cryptogram, CryptogramLaw, Opens, OpensExactly, Answers, AnswerLaw, CountersExactly, CountersLaw, ScriptKeys, ScriptKeysLaw, OpenWrapped, WrapOpened}

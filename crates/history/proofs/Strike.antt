@@ -7,16 +7,17 @@ use lib.ListN.{length, replicate}
 use lib.Dec.{eqb}
 use borrow.Author.Tests.{eqb-true}
 use Rattle.octets.specs.Same.{same}
-use Rattle.message.specs.declared.command.Listed.{Listed}
-use Rattle.message.specs.declared.command.Listed.the-variants.{One, Unlisted}
-use Rattle.message.specs.Length.{lengthOf}
-use Rattle.message.specs.Shape.{tagOf, shape}
-use Rattle.message.specs.Command.{commandOf}
-use Rattle.card.specs.declared.PendingMark.the-variants.{Nothing}
-use Rattle.card.specs.declared.Transaction.{Transaction}
+use Rattle.shapes.specs.declared.command.Listed.{Listed}
+use Rattle.shapes.specs.declared.command.Listed.the-variants.{One, Unlisted}
+use Rattle.shapes.specs.Length.{lengthOf}
+use Rattle.shapes.specs.Shape.{tagOf, shape}
+use Rattle.shapes.specs.Command.{commandOf}
+use Rattle.transaction.specs.declared.PendingMark.the-variants.{Nothing}
+use Rattle.transaction.specs.declared.Transaction.{Transaction}
+use Rattle.transaction.specs.Transaction.{isOpen, isUnmarked, none, pendingFits, restFits}
 use Rattle.card.specs.declared.Card.{Card}
 use Rattle.card.specs.declared.Reply.{Reply}
-use Rattle.card.specs.Record.{isOpen, isUnmarked, none, pendingFits, restFits, sound, withTransaction}
+use Rattle.card.specs.Record.{sound, withTransaction}
 use Rattle.card.specs.Keys.{sessionKeyOf, smiKey, smcKey, counterKeyOf}
 use Rattle.card.specs.Calls.{Order, newPin, newMark, pend, plain, Judgment, refuse, accept, opening, openAs, cryptogramFor, arpcFor, answering, answerAs, withdrawing, counting, countersAs, countersFor}
 use Rattle.card.specs.Calls.{strikes, first, input, shapeWrong, Verdict, refuses, spoils, differs, takes, pinIn, forCommand, inOpen, judged, scriptAs}

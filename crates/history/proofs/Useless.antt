@@ -12,8 +12,14 @@ use Rattle.octets.specs.Same.{same}
 use Rattle.octets.specs.Digits.{digits}
 use Rattle.octets.specs.Lengths.{keyFits}
 use Rattle.octets.proofs.Parts.{octets-test}
-use Rattle.cipher.specs.Gost.{encipher, decipher}
-use Rattle.cipher.proofs.Inverse.{decipher-encipher}
+use Rattle.shapes.specs.declared.command.Command.{Command}
+use Rattle.shapes.specs.declared.command.Command.the-variants.{SetPin, SetMark, ClearMark}
+use Rattle.shapes.specs.declared.command.Listed.the-variants.{One}
+use Rattle.shapes.specs.Length.{lengthOf, placeOf, largest}
+use Rattle.shapes.specs.Shape.{tagOf, tagFits}
+use Rattle.shapes.specs.Command.{headerOf, tagFor, lengthFor, isFor, listed, firstOf, commandOf}
+use Rattle.gost.specs.Gost.{encipher, decipher}
+use Rattle.gost.proofs.Inverse.{decipher-encipher}
 use Rattle.hash.specs.Hash.{hash256}
 use Rattle.derive.specs.Derivation.{derived, cardLabel}
 use Rattle.derive.specs.Answers.{yes as key-made, noKey, seedFits, derivation}
@@ -23,21 +29,16 @@ use Rattle.pin.specs.declared.PinRead.{PinRead}
 use Rattle.pin.specs.PinBlock.{pinFits, halves, wellFormed, pinOf}
 use Rattle.pin.specs.CounterBlock.{counterBlock, countersOf}
 use Rattle.pin.specs.Answers.{found, noPin, readBlock}
-use Rattle.message.specs.declared.command.Command.{Command}
-use Rattle.message.specs.declared.command.Command.the-variants.{SetPin, SetMark, ClearMark}
-use Rattle.message.specs.declared.command.Listed.the-variants.{One}
-use Rattle.message.specs.Length.{lengthOf, placeOf, largest}
-use Rattle.message.specs.Shape.{tagOf, tagFits}
 use Rattle.message.specs.Code.{message, given}
-use Rattle.message.specs.Command.{headerOf, tagFor, lengthFor, isFor, listed, firstOf, commandOf}
 use Rattle.message.proofs.Return.{open-made, Taken, taken}
-use Rattle.card.specs.declared.Transaction.{Transaction}
+use Rattle.transaction.specs.declared.Transaction.{Transaction}
+use Rattle.transaction.specs.declared.PendingMark.the-variants.{Set, Clear}
+use Rattle.transaction.specs.Transaction.{isOpen, isUnmarked, none, pendingFits, restFits, begun, markFor}
 use Rattle.card.specs.declared.Card.{Card}
 use Rattle.card.specs.declared.Reply.{Reply}
-use Rattle.card.specs.declared.PendingMark.the-variants.{Set, Clear}
-use Rattle.card.specs.Record.{isOpen, isUnmarked, none, pendingFits, restFits, sound, Kept, kept, withTransaction, withCounters, withSession}
+use Rattle.card.specs.Record.{sound, Kept, kept, withTransaction, withCounters, withSession}
 use Rattle.card.specs.Keys.{smiKey}
-use Rattle.card.specs.Calls.{Order, plain, refuse, accept, Judgment, Verdict, takes, orderOf, newMark, formatFits, pinIn, opening, openAs, begun, grown, judged, scriptAs, pend, markFor, laid, Closing, closes, closing, closeAs, counting, countersAs}
+use Rattle.card.specs.Calls.{Order, plain, refuse, accept, Judgment, Verdict, takes, orderOf, newMark, formatFits, pinIn, opening, openAs, grown, judged, scriptAs, pend, laid, Closing, closes, closing, closeAs, counting, countersAs}
 use Rattle.card.specs.Calls.{Call, Open, Script, Close, Counters, step}
 use Rattle.card.specs.Personalise.{fresh, personalised}
 use Rattle.history.specs.Run.{Box}

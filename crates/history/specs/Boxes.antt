@@ -4,10 +4,11 @@ use mathlib.Core.Bool.{Bool, not, _&&_, cond}
 use mathlib.Core.List.{List}
 use lib.Dec.{eqb}
 use lib.ListN.{replicate}
-use Rattle.card.specs.declared.Transaction.{Transaction}
+use Rattle.transaction.specs.declared.Transaction.{Transaction}
+use Rattle.transaction.specs.Transaction.{isUnmarked, none}
 use Rattle.card.specs.declared.Card.{Card}
 use Rattle.card.specs.declared.Reply.{Reply}
-use Rattle.card.specs.Record.{isUnmarked, none, withTransaction}
+use Rattle.card.specs.Record.{withTransaction}
 use Rattle.card.specs.Calls.{plain, grown, Call, Open, IssuerAnswer, Script, Close, Withdraw, Counters, step}
 use Rattle.history.specs.Run.{Box}
 use Rattle.history.specs.Demand2.{AcceptedExactly, CryptogramLaw}

@@ -6,15 +6,16 @@ use mathlib.Core.List.{List}
 use lib.Dec.{eqb}
 use lib.ListN.{length}
 use borrow.Author.Tests.{eqb-true, eqb-false}
-use Rattle.message.specs.declared.command.Command.{Command}
-use Rattle.message.specs.declared.command.Listed.{Listed}
-use Rattle.message.specs.declared.command.Listed.the-variants.{One, Unlisted}
-use Rattle.message.specs.Length.{lengthOf}
-use Rattle.message.specs.Shape.{tagOf, shape}
+use Rattle.shapes.specs.declared.command.Command.{Command}
+use Rattle.shapes.specs.declared.command.Listed.{Listed}
+use Rattle.shapes.specs.declared.command.Listed.the-variants.{One, Unlisted}
+use Rattle.shapes.specs.Length.{lengthOf}
+use Rattle.shapes.specs.Shape.{tagOf, shape}
+use Rattle.shapes.specs.Command.{commandOf}
 use Rattle.message.specs.Code.{codeFits}
-use Rattle.message.specs.Command.{commandOf}
+use Rattle.transaction.specs.Transaction.{isOpen}
 use Rattle.card.specs.declared.Card.{Card}
-use Rattle.card.specs.Record.{isOpen, sound}
+use Rattle.card.specs.Record.{sound}
 use Rattle.card.specs.Keys.{smiKey}
 use Rattle.card.specs.Calls.{formatFits, pinIn}
 use Rattle.history.specs.Demand2.{Accepts}

@@ -5,25 +5,26 @@ use mathlib.Core.Bool.{true, false}
 use mathlib.Core.Logic.{_↔_}
 use mathlib.Core.List.{List}
 use lib.ListN.{length, take, drop}
-use Rattle.cipher.specs.Gost.{subkeys, encipher}
+use Rattle.shapes.specs.declared.Opened.the-variants.{Data}
+use Rattle.shapes.specs.declared.command.Command.{Command}
+use Rattle.shapes.specs.declared.command.Listed.the-variants.{One}
+use Rattle.shapes.specs.Length.{lengthOf, placeOf}
+use Rattle.shapes.specs.Shape.{tagOf, sizeOf, shape as hasShape}
+use Rattle.shapes.specs.Command.{commandOf}
+use Rattle.gost.specs.Gost.{subkeys, encipher}
 use Rattle.hash.specs.Hash.{hash256}
 use Rattle.derive.specs.Derivation.{derived, cardLabel}
 use Rattle.keys.specs.Seeds.{sessionSeed}
 use Rattle.pin.specs.CounterBlock.{counterBlock}
-use Rattle.cryptogram.specs.Cryptogram.{cryptogramOf, arpcOf}
-use Rattle.cryptogram.specs.Answers.{kindNumber}
-use Rattle.message.specs.declared.Opened.the-variants.{Data}
-use Rattle.message.specs.declared.command.Command.{Command}
-use Rattle.message.specs.declared.command.Listed.the-variants.{One}
-use Rattle.message.specs.Length.{lengthOf, placeOf}
-use Rattle.message.specs.Shape.{tagOf, sizeOf, shape as hasShape}
 use Rattle.message.specs.Code.{codeFits}
 use Rattle.message.specs.Answers.{opened, laid, wrapped}
-use Rattle.message.specs.Command.{commandOf}
+use Rattle.cryptogram.specs.Cryptogram.{cryptogramOf, arpcOf}
+use Rattle.cryptogram.specs.Answers.{kindNumber}
+use Rattle.transaction.specs.Transaction.{isOpen, kindFor, isArqc}
 use Rattle.card.specs.declared.Card.{Card}
-use Rattle.card.specs.Record.{isOpen, sound as isSound}
+use Rattle.card.specs.Record.{sound as isSound}
 use Rattle.card.specs.Keys.{smiKey, smcKey}
-use Rattle.card.specs.Calls.{Order, orderOf, formatFits, pinIn, kindFor, isArqc, Open, IssuerAnswer, Script, Counters}
+use Rattle.card.specs.Calls.{Order, orderOf, formatFits, pinIn, Open, IssuerAnswer, Script, Counters}
 use Rattle.history.specs.Run.{Box}
 
 -- "Keys, cryptograms, PIN blocks, counter blocks and script messages are those of R 1323565.1.008, 009 and 010 as 01 reads them." Of the crates

@@ -4,8 +4,9 @@ use mathlib.Core.Path.{_≡_}
 use mathlib.Core.Bool.{Bool, true, false, not, _&&_, _||_, cond}
 use mathlib.Core.List.{List, [], _∷_, _++_}
 use lib.Dec.{eqb}
+use Rattle.transaction.specs.Transaction.{isOpen}
 use Rattle.card.specs.declared.Card.{Card}
-use Rattle.card.specs.Record.{isOpen, Kept, kept, sound}
+use Rattle.card.specs.Record.{Kept, kept, sound}
 use Rattle.card.specs.Calls.{Order, newPin, newMark, Call, Open, IssuerAnswer, Script, Close, Withdraw, Counters, plain}
 use Rattle.card.specs.Personalise.{personalised}
 use Rattle.history.specs.Run.{Box, run, Entry, did, History, history, callsOf, frame, opened, answered, taken, failed}

@@ -6,15 +6,16 @@ use mathlib.Core.List.{List, [], _∷_, _++_}
 use lib.Dec.{eqb}
 use lib.ListN.{getD, set, replicate}
 use Rattle.octets.specs.Same.{same}
+use Rattle.shapes.specs.Answers.{number, shaped}
 use Rattle.keys.specs.CardNumber.{Y}
 use Rattle.pin.specs.Answers.{writePin, readPin}
 use Rattle.cryptogram.specs.declared.Kind.{Kind}
 use Rattle.cryptogram.specs.declared.Kind.the-variants.{Arqc, Tc, Aac}
 use Rattle.cryptogram.specs.Data.{cardData}
-use Rattle.message.specs.Answers.{number, shaped}
+use Rattle.transaction.specs.Transaction.{none, spoilt, begun}
 use Rattle.card.specs.declared.Card.{Card}
-use Rattle.card.specs.Record.{none, withTransaction, withCounters, withSession, spoilt}
-use Rattle.card.specs.Calls.{begun, step, Open, Close, Withdraw}
+use Rattle.card.specs.Record.{withTransaction, withCounters, withSession}
+use Rattle.card.specs.Calls.{step, Open, Close, Withdraw}
 
 -- a record with PIN 1234 at a transaction counter
 abbrev pub cardAt : ℕ → Card

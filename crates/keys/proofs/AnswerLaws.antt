@@ -5,16 +5,16 @@ use mathlib.Core.List.{List, _++_}
 use Prim.Native.Nat.{ℕ, _-_, _<_, _≤_}
 use borrow.Author.Tests.{eq-eqb, ne-eqb, le-leb, lt-leb, not-true, not-false}
 use lib.ListN.{length, take, replicate}
-use Rattle.hash.specs.Hash.{hash256}
-use Rattle.cipher.specs.declared.BlockAnswer.{BlockAnswer}
-use Rattle.cipher.specs.Gost.{encipher}
 use Rattle.octets.specs.Lengths.{keyFits}
+use Rattle.octets.specs.Numbers.{beOctets, leOctets}
+use Rattle.gost.specs.Gost.{encipher}
+use Rattle.cipher.specs.declared.BlockAnswer.{BlockAnswer}
+use Rattle.cipher.specs.Answers.{enciphered}
+use Rattle.cipher.proofs.AnswerLaws.{fits as block-fits}
+use Rattle.hash.specs.Hash.{hash256}
 use Rattle.derive.specs.Answers.{noKey, yes, derivation}
 use Rattle.derive.proofs.Laws.{fits}
 use Rattle.keys.specs.CardNumber.{cardFits}
-use Rattle.octets.specs.Numbers.{beOctets, leOctets}
-use Rattle.cipher.specs.Answers.{enciphered}
-use Rattle.cipher.proofs.AnswerLaws.{fits as block-fits}
 use Rattle.keys.specs.Seeds.{idnBlock}
 use Rattle.keys.specs.Answers.{cardAnswer, counterKey, idn, noIdn, idnAnswer}
 

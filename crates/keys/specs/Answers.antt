@@ -4,11 +4,11 @@ use mathlib.Core.Bool.{_&&_, cond}
 use mathlib.Core.List.{List, _++_}
 use lib.Dec.{leb}
 use lib.ListN.{take, replicate}
-use Rattle.cipher.specs.Gost.{encipher}
+use Rattle.octets.specs.Lengths.{keyFits}
+use Rattle.gost.specs.Gost.{encipher}
 use Rattle.hash.specs.Hash.{hash256}
 use Rattle.derive.specs.declared.KeyAnswer.{KeyAnswer}
 use Rattle.derive.specs.Derivation.{derived, cardLabel}
-use Rattle.octets.specs.Lengths.{keyFits}
 use Rattle.derive.specs.Answers.{noKey, yes, derivation}
 use Rattle.keys.specs.declared.IdnAnswer.{IdnAnswer}
 use Rattle.keys.specs.CardNumber.{cardFits, Y, packedY}

@@ -32,3 +32,12 @@ module _ (a : List ℕ) (n : length a ≡ 8) where
       ≡ LPS a
   unfolding added LPS L words
   lps-words = each-equal word-at
+
+  -- the eight additions one after the other
+  pub lps-chain : {r₀ r₁ r₂ r₃ r₄ r₅ r₆ r₇ : List ℕ} → r₀ ≡ added 0 (getD a 0 0) (replicate 8 0) → r₁ ≡ added 1 (getD a 1 0) r₀
+      → r₂ ≡ added 2 (getD a 2 0) r₁ → r₃ ≡ added 3 (getD a 3 0) r₂ → r₄ ≡ added 4 (getD a 4 0) r₃ → r₅ ≡ added 5 (getD a 5 0) r₄
+      → r₆ ≡ added 6 (getD a 6 0) r₅ → r₇ ≡ added 7 (getD a 7 0) r₆ → r₇ ≡ LPS a
+  lps-chain e₀ e₁ e₂ e₃ e₄ e₅ e₆ e₇ =
+      e₇ ∙ ap (added 7 (getD a 7 0)) (e₆ ∙ ap (added 6 (getD a 6 0)) (e₅ ∙ ap (added 5 (getD a 5 0)) (e₄ ∙ ap (added 4 (getD a 4 0))
+      (e₃ ∙ ap (added 3 (getD a 3 0)) (e₂ ∙ ap (added 2 (getD a 2 0)) (e₁ ∙ ap (added 1 (getD a 1 0)) e₀))))))
+      ∙ lps-words

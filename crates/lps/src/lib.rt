@@ -1,18 +1,18 @@
-// The transformation LPS of GOST R 34.11-2012 (RFC 6986, section 7), by the eight tables of `tables_lower` and `tables_upper`.
+// The transformation LPS of GOST R 34.11-2012 (RFC 6986, section 7), by the eight tables of `tables`.
 //
 // One function a table, and one call of each: only so does LLVM put the table in place, unroll the loop and keep the vector in registers.
 ghost use mathlib.Core.Path.{_≡_};
 ghost use Rattle.lps.specs.Vectors.{LPS};
 ghost use Rattle.lps.specs.Inner.{added};
 use octets::octet;
-use tables_lower::table0;
-use tables_lower::table1;
-use tables_lower::table2;
-use tables_lower::table3;
-use tables_upper::table4;
-use tables_upper::table5;
-use tables_upper::table6;
-use tables_upper::table7;
+use tables::table0;
+use tables::table1;
+use tables::table2;
+use tables::table3;
+use tables::table4;
+use tables::table5;
+use tables::table6;
+use tables::table7;
 
 // What the bytes of word 0 add to the eight words: byte i to word i. The others alike.
 fn add0(a: u64, r: [u64; 8]) -> [u64; 8]

@@ -9,10 +9,10 @@ use lib.Dec.{eqb}
 use lib.ListN.{length, take, drop, set, length-append, length-replicate}
 use lib.Seq.{paste, take-at, drop-at, drop-drop, set-at, take-length}
 use Rattle.octets.proofs.Parts.{zeros, drop-zeros}
-use Rattle.cipher.specs.declared.CodeAnswer.{CodeAnswer}
-use Rattle.cipher.specs.Gost.{subkeys}
-use Rattle.cipher.specs.Code.{codeOf}
 use Rattle.octets.specs.Lengths.{keyFits}
+use Rattle.gost.specs.Gost.{subkeys}
+use Rattle.cipher.specs.declared.CodeAnswer.{CodeAnswer}
+use Rattle.cipher.specs.Code.{codeOf}
 use Rattle.cipher.specs.Answers.{coded}
 use Rattle.cipher.proofs.AnswerLaws.{code-key, string-fits}
 use Rattle.message.specs.Code.{X, Y, codeFor, given}

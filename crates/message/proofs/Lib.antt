@@ -1,9 +1,5 @@
-pub mod Return
-pub mod Examples
-pub mod LengthLaws
-pub mod ShapeLaws
 pub mod LaidLaws
 pub mod WrapLaws
-pub mod CommandLaws
+pub mod Return
 pub mod CodeLaws
 pub mod AnswerLaws

@@ -9,13 +9,14 @@ use lib.Dec.{eqb}
 use lib.ListN.{length, take, drop, length-append}
 use Rattle.octets.specs.Same.{same}
 use Rattle.octets.proofs.SameLaws.{same-refl, same-true}
+use Rattle.shapes.specs.declared.Opened.the-variants.{Data}
+use Rattle.shapes.specs.Length.{largest, lengthOf, placeOf}
+use Rattle.shapes.specs.Shape.{tagFits, body, bodySize, sizeOf, tagOf, dataOf, bodyOf, codeIn, shape}
+use Rattle.shapes.specs.Answers.{answer}
+use Rattle.shapes.proofs.ShapeLaws.{length-body, length-read, tag-read, data-read, body-read, code-read, shape-parts}
 use Rattle.cipher.proofs.CodeLaws.{length-codeOf}
-use Rattle.message.specs.declared.Opened.the-variants.{Data}
-use Rattle.message.specs.Length.{largest, lengthOf, placeOf}
-use Rattle.message.specs.Shape.{tagFits, body, bodySize, sizeOf, tagOf, dataOf, bodyOf, codeIn, shape}
 use Rattle.message.specs.Code.{codeFor, message, given, codeFits}
-use Rattle.message.specs.Answers.{answer, openNumber, opened, laid, wrapNumber, Written, wrapped}
-use Rattle.message.proofs.ShapeLaws.{length-body, length-read, tag-read, data-read, body-read, code-read, shape-parts}
+use Rattle.message.specs.Answers.{openNumber, opened, laid, wrapNumber, Written, wrapped}
 use Rattle.message.proofs.LaidLaws.{laid-there}
 use Rattle.message.proofs.WrapLaws.{accepted, wrap-fits, wrap-accepted}
 

@@ -12,12 +12,12 @@ use lib.Dec.{leb}
 use lib.ListN.{length, getD, take, drop, set}
 use lib.Seq.{paste, sets-eq, take-length, take-take}
 use Rattle.octets.proofs.Parts.{elements, elements-all}
-use Rattle.message.specs.Length.{largest, largestShort, lengthField, placeOf}
-use Rattle.message.specs.Shape.{tagFits, codeHead, body, bodySize, sizeOf}
+use Rattle.shapes.specs.Length.{largest, largestShort, lengthField, placeOf}
+use Rattle.shapes.specs.Shape.{tagFits, codeHead, body, bodySize, sizeOf}
+use Rattle.shapes.proofs.LengthLaws.{field-short, field-long, place-short, place-long, largest-small, place-small, length-head}
+use Rattle.shapes.proofs.ShapeLaws.{length-body}
 use Rattle.message.specs.Code.{codeFor, message, given}
 use Rattle.message.specs.Answers.{laid, wrapNumber, wrapped, Written, Wrote}
-use Rattle.message.proofs.LengthLaws.{field-short, field-long, place-short, place-long, largest-small, place-small, length-head}
-use Rattle.message.proofs.ShapeLaws.{length-body}
 use Rattle.message.proofs.LaidLaws.{length-laid, lent-length, laid-there, laid-laid, laid-lent}
 
 -- the stores of a tag and a length field

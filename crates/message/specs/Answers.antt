@@ -2,31 +2,14 @@
 use Prim.Native.Nat.{ℕ, _+_}
 use mathlib.Core.Path.{_≡_}
 use mathlib.Core.Bool.{_&&_, cond}
-use mathlib.Core.List.{List, [], _∷_, _++_}
+use mathlib.Core.List.{List, _++_}
 use lib.Dec.{leb, eqb}
 use lib.ListN.{length, take, drop}
-use Rattle.message.specs.declared.Opened.{Opened}
-use Rattle.message.specs.declared.Opened.the-variants.{Data, Refused}
-use Rattle.message.specs.Length.{largest, lengthOf, placeOf}
-use Rattle.message.specs.Shape.{tagFits, sizeOf, tagOf, shape}
+use Rattle.shapes.specs.declared.Opened.{Opened}
+use Rattle.shapes.specs.Length.{largest}
+use Rattle.shapes.specs.Shape.{tagFits, sizeOf, shape}
+use Rattle.shapes.specs.Answers.{answer}
 use Rattle.message.specs.Code.{message, given, codeFits}
-
--- 01's number of an answer, 0 where it is no refusal, and its values: tag, place and length of the data
-unfoldable pub number : Opened → ℕ
-number (Data tag place n) = 0
-number (Refused r) = r
-
-unfoldable pub values : Opened → List ℕ
-values (Data tag place n) = tag ∷ place ∷ n ∷ []
-values (Refused r) = []
-
--- the answer with number r about message m: on 0 its tag, and the place and length of its data in it
-unfoldable pub answer : ℕ → List ℕ → Opened
-answer r m = cond (eqb r 0) (Data (tagOf m) (placeOf (lengthOf m)) (lengthOf m)) (Refused r)
-
--- the shape alone: 4
-unfoldable pub shaped : List ℕ → Opened
-shaped m = answer (cond (shape m) 0 4) m
 
 -- opening: 1, 4, 8
 unfoldable pub openNumber : List ℕ → List ℕ → List ℕ → ℕ

@@ -5,10 +5,10 @@ use mathlib.Core.List.{List, [], _∷_, _++_}
 use lib.Dec.{eqb}
 use lib.ListN.{length, replicate}
 use Rattle.octets.specs.Same.{same}
-use Rattle.cipher.specs.Gost.{subkeys}
-use Rattle.cipher.specs.Code.{codeOf}
 use Rattle.octets.specs.Lengths.{keyFits}
-use Rattle.message.specs.Shape.{body, bodyOf, codeIn, shape}
+use Rattle.shapes.specs.Shape.{body, bodyOf, codeIn, shape}
+use Rattle.gost.specs.Gost.{subkeys}
+use Rattle.cipher.specs.Code.{codeOf}
 
 -- 4.1.1: X is CLA, INS, P1, P2, 80 00 00 00: 8 bytes
 unfoldable pub X : List ℕ → List ℕ

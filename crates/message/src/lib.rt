@@ -1,117 +1,17 @@
-// Script messages (R 1323565.1.008): their shape, their code, opening and wrapping.
+// Script messages (R 1323565.1.008): their code, opening and wrapping.
+pub use shapes::Command;
+pub use shapes::Listed;
+pub use shapes::Opened;
+pub use shapes::shape;
 ghost use mathlib.Core.Path.{_≡_};
 ghost use mathlib.Core.Bool.{true};
-ghost use mathlib.Core.List.{[], _∷_, _++_};
+ghost use mathlib.Core.List.{_∷_, _++_};
 ghost use Prim.Native.Nat.{_+_, _≤_};
-ghost use lib.ListN.{length, getD, take, replicate};
-ghost use Rattle.octets.specs.Same.{same};
-ghost use Rattle.message.specs.Length.{largest, lengthField, lengthOf, placeOf};
-ghost use Rattle.message.specs.Shape.{tagFits, codeHead, bodySize};
+ghost use lib.ListN.{length, take, replicate};
+ghost use Rattle.shapes.specs.Length.{largest, lengthField, placeOf};
+ghost use Rattle.shapes.specs.Shape.{codeHead, bodySize};
 ghost use Rattle.message.specs.Code.{X, Y, codeFor, given as areGiven, codeFits};
-ghost use Rattle.message.specs.Answers.{shaped, opened, laid, wrapNumber, wrapped, Wrote};
-
-mod command;
-
-pub use command::Command;
-pub use command::Listed;
-
-// The tag, and the place and length of the data in the message; or a refusal's number.
-pub enum Opened {
-    Data {
-        tag: u8,
-        place: usize,
-        length: usize,
-    },
-    Refused(u8),
-}
-
-// The largest length of data, the largest that its one byte says, and the byte ahead of a longer one.
-const LARGEST: usize = 255;
-
-const LARGEST_SHORT: usize = 127;
-
-const LONG_MARK: usize = 0x81;
-
-// The byte of a message at a place; 0 past its end.
-fn byte_at(message: &[u8], at: usize) -> usize
-    ensures { λ r. ⌜ r ≡ getD (now (message .entry)) at 0 ⌝ }
-{
-    if at >= message.len() {
-        return 0;
-    }
-    message[at] as usize
-}
-
-// What the length field of a message says; more than the largest where it has another form.
-fn length_of(message: &[u8]) -> usize
-    ensures { λ r. ⌜ r ≡ lengthOf (now (message .entry)) ⌝ }
-{
-    let first = byte_at(message, 1);
-    if first <= LARGEST_SHORT {
-        return first;
-    }
-    if first != LONG_MARK {
-        return LARGEST + 1;
-    }
-    let second = byte_at(message, 2);
-    if second <= LARGEST_SHORT {
-        return LARGEST + 1;
-    }
-    second
-}
-
-// The place of n bytes of data in their message.
-fn place_of(n: usize) -> usize
-    ensures { λ r. ⌜ r ≡ placeOf n ⌝ }
-{
-    if n <= LARGEST_SHORT {
-        return 2;
-    }
-    3
-}
-
-// Whether a tag is 87 or 81.
-fn is_tag(tag: u8) -> bool
-    ensures { λ r. ⌜ r ≡ tagFits tag ⌝ }
-{
-    if tag == 0x87 {
-        return true;
-    }
-    tag == 0x81
-}
-
-// Whether the two bytes are those ahead of a code.
-fn is_code_head(a: u8, b: u8) -> bool
-    ensures { λ r. ⌜ r ≡ same (a ∷ b ∷ []) codeHead ⌝ }
-{
-    if a != 0x8e {
-        return false;
-    }
-    b == 0x04
-}
-
-// Tag, place and length of the data of a message of good shape, or 4.
-pub fn shape(message: &[u8]) -> Opened
-    ensures { λ r. ⌜ r ≡ shaped (now (message .entry)) ⌝ }
-{
-    let length = length_of(message);
-    if length > LARGEST {
-        return Opened::Refused(4);
-    }
-    let place = place_of(length);
-    let end = place + length;
-    if message.len() != end + 6 {
-        return Opened::Refused(4);
-    }
-    let tag = message[0];
-    if !is_tag(tag) {
-        return Opened::Refused(4);
-    }
-    if !is_code_head(message[end], message[end + 1]) {
-        return Opened::Refused(4);
-    }
-    Opened::Data { tag, place, length }
-}
+ghost use Rattle.message.specs.Answers.{opened, laid, wrapNumber, wrapped, Wrote};
 
 // Whether key and header have their lengths.
 fn given(key: &[u8], header: &[u8]) -> bool
@@ -174,7 +74,7 @@ pub fn code_fits(key: &[u8], header: &[u8], message: &[u8]) -> bool
         tag: _,
         place,
         length,
-    } = shape(message)
+    } = shapes::shape(message)
     else {
         return false;
     };
@@ -190,7 +90,7 @@ pub fn open_message(key: &[u8], header: &[u8], message: &[u8]) -> Opened
     if !given(key, header) {
         return Opened::Refused(1);
     }
-    let Opened::Data { tag, place, length } = shape(message) else {
+    let Opened::Data { tag, place, length } = shapes::shape(message) else {
         return Opened::Refused(4);
     };
     if !code_fits(key, header, message) {
@@ -205,8 +105,8 @@ fn write_tag(part: &mut [u8], tag: u8, n: usize)
     ensures { λ _. ⌜ now (part .exit) ≡ laid (now (part .entry)) 0 (tag ∷ lengthField n) ⌝ }
 {
     part[0] = tag;
-    if n > LARGEST_SHORT {
-        part[1] = LONG_MARK as u8;
+    if n > shapes::LARGEST_SHORT {
+        part[1] = shapes::LONG_MARK as u8;
         part[2] = n as u8;
         return;
     }
@@ -219,7 +119,7 @@ fn write_data(part: &mut [u8], data: &[u8])
     ensures { λ _. ⌜ now (part .exit) ≡ laid (now (part .entry)) (placeOf (length (now («data» .entry)))) (now («data» .entry) ++ codeHead) ⌝ }
 {
     let n = data.len();
-    let place = place_of(n);
+    let place = shapes::place_of(n);
     let mut i = 0;
     while i < n {
         part[place + i] = data[i];
@@ -234,7 +134,7 @@ fn write_code(part: &mut [u8], key: &[u8], header: &[u8], n: usize)
     requires { ⌜ (areGiven (now key) (now header) ≡ true) × (n ≤ largest) × (placeOf n + n + 6 ≤ length (now part)) ⌝ }
     ensures { λ _. ⌜ now (part .exit) ≡ laid (now (part .entry)) (bodySize n) (codeFor (now (key .entry)) (now (header .entry)) (take (bodySize n) (now (part .entry)))) ⌝ }
 {
-    let k = place_of(n) + n + 2;
+    let k = shapes::place_of(n) + n + 2;
     let code = code_for(key, header, &part[..k]);
     part[k] = code[0];
     part[k + 1] = code[1];
@@ -249,16 +149,16 @@ fn wrap_number(key: &[u8], header: &[u8], tag: u8, n: usize, size: usize, place:
     if !given(key, header) {
         return 1;
     }
-    if !is_tag(tag) {
+    if !shapes::is_tag(tag) {
         return 1;
     }
-    if n > LARGEST {
+    if n > shapes::LARGEST {
         return 1;
     }
     if size < place {
         return 3;
     }
-    if size - place < place_of(n) + n + 6 {
+    if size - place < shapes::place_of(n) + n + 6 {
         return 3;
     }
     0

@@ -8,14 +8,14 @@ use borrow.Author.Tests.{eq-eqb, ne-eqb, not-true, not-false}
 use lib.ListN.{length, getD, take, drop, replicate}
 use lib.Seq.{length-take-le}
 use Rattle.octets.proofs.DigitLaws.{digits-length}
-use Rattle.cipher.specs.declared.BlockAnswer.{BlockAnswer}
-use Rattle.cipher.specs.Gost.{encipher, decipher}
 use Rattle.octets.specs.Lengths.{keyFits}
+use Rattle.octets.proofs.DigitLaws.{length-pairs}
+use Rattle.gost.specs.Gost.{encipher, decipher}
+use Rattle.cipher.specs.declared.BlockAnswer.{BlockAnswer}
 use Rattle.cipher.specs.Answers.{blockFits, noBlock as none, blockAnswer, enciphered, deciphered}
 use Rattle.cipher.proofs.AnswerLaws.{fits as block-fits}
 use Rattle.pin.specs.PinBlock.{pinFits, halves, fields, pinBlock, wellFormed, pinOf}
 use Rattle.pin.specs.Answers.{written, noBlock, found, noPin, writePin, readBlock, readPin, encipherPin, decipherPin}
-use Rattle.octets.proofs.DigitLaws.{length-pairs}
 use Rattle.pin.proofs.BlockLaws.{Fits, fits, Formed, formed, length-fields}
 
 pub length-pinBlock : (pin : List ℕ) → Fits 0 (length pin) pin → length (pinBlock pin) ≡ 8

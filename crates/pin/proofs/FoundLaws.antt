@@ -8,7 +8,7 @@ use borrow.Author.Tests.{le-leb}
 use lib.ListN.{length, getD, drop, replicate}
 use Rattle.octets.proofs.DigitLaws.{digits-refilled}
 use Rattle.octets.specs.Lengths.{keyFits}
-use Rattle.cipher.specs.Gost.{decipher}
+use Rattle.gost.specs.Gost.{decipher}
 use Rattle.cipher.specs.Answers.{blockFits}
 use Rattle.pin.specs.declared.PinRead.{PinRead}
 use Rattle.pin.specs.PinBlock.{pinFits, halves, wellFormed, pinOf}

@@ -12,10 +12,10 @@ use Rattle.octets.specs.Numbers.{Octets}
 use Rattle.octets.specs.Digits.{digits, pairs}
 use Rattle.octets.proofs.DigitLaws.{digits-filled, digits-refilled}
 use Rattle.octets.proofs.Parts.{elements-all}
-use Rattle.cipher.specs.Gost.{encipher, decipher}
 use Rattle.octets.specs.Lengths.{keyFits}
+use Rattle.gost.specs.Gost.{encipher, decipher}
+use Rattle.gost.proofs.Inverse.{length-encipher, length-decipher, decipher-encipher, encipher-decipher}
 use Rattle.cipher.specs.Answers.{blockFits}
-use Rattle.cipher.proofs.Inverse.{length-encipher, length-decipher, decipher-encipher, encipher-decipher}
 use Rattle.pin.specs.declared.PinBlock.{PinBlock}
 use Rattle.pin.specs.declared.PinRead.{PinRead}
 use Rattle.pin.specs.PinBlock.{pinFits, halves, fields, pinBlock, wellFormed, pinOf}

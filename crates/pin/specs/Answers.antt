@@ -3,7 +3,7 @@ use Prim.Native.Nat.{ℕ, _-_}
 use mathlib.Core.Bool.{_&&_, cond}
 use mathlib.Core.List.{List, _++_}
 use lib.ListN.{length, take, replicate}
-use Rattle.cipher.specs.Gost.{encipher, decipher}
+use Rattle.gost.specs.Gost.{encipher, decipher}
 use Rattle.octets.specs.Lengths.{keyFits}
 use Rattle.cipher.specs.Answers.{blockFits}
 use Rattle.pin.specs.declared.PinBlock.{PinBlock}

@@ -1,14 +1,14 @@
--- The 2,048 words of the eight tables, and that each is what the formula gives: one test, computed over all of them. Assumes nothing.
-use mathlib.Core.Path.{_≡_, refl, sym, ap, ap₂, _∙_, subst}
+-- The 2,048 words of the eight tables, and that each is what the formula gives: one test, computed over all of them. A second one says that each
+-- has 64 bits. Assumes nothing.
+use mathlib.Core.Path.{_≡_, refl, sym, ap₂, _∙_, subst}
 use mathlib.Core.Bool.{Bool}
 use mathlib.Core.List.{List, [], _∷_}
-use Prim.Native.Nat.{ℕ, _+_, _*_, _/_, _%_, _<_}
+use Prim.Native.Nat.{ℕ, _+_, _*_, _/_, _%_, _^_, _<_}
 use native.Mathlib.Omega.{arith}
-use lib.Bits.{bitXor}
-use lib.Dec.{eqb, eqb→eq}
-use lib.ListN.{length, getD}
+use lib.Dec.{eqb, eqb→eq, ltb, ltb→lt}
+use lib.ListN.{length, getD, drop}
+use lib.Seq.{getD-drop}
 use Rattle.octets.proofs.Table.{at as entry-at}
-use Rattle.octets.proofs.Xor.{xor-twice}
 use Rattle.tables.specs.Tables.{pi, A}
 use Rattle.tables.specs.Matrix.{lin, l, entry}
 
@@ -540,11 +540,23 @@ pub word-at : (i : ℕ) → i < 2048 → getD all i 0 ≡ entry (i / 256) (i % 2
 unfolding right? entry l lin A pi all
 word-at i h = eqb→eq (getD all i 0) (entry (i / 256) (i % 256)) (entry-at right? all tt i (subst (λ (n : ℕ). i < n) (sym count) h))
 
--- the same, as an arm of a match has it
-pub at : (j : ℕ) {b k : ℕ} → j < 8 → b < 256 → bitXor b 0x80 ≡ k → getD all (256 * j + bitXor k 0x80) 0 ≡ entry j b
-at j {b} hj hb e =
-    let q : (256 * j + b) / 256 ≡ j = omega arith in
-    let r : (256 * j + b) % 256 ≡ b = omega arith in
-    ap (λ (x : ℕ). getD all (256 * j + x) 0) (ap (λ (x : ℕ). bitXor x 0x80) (sym e) ∙ xor-twice b 0x80)
-    ∙ word-at (256 * j + b) (omega arith)
-    ∙ ap₂ entry q r
+fits? : ℕ → ℕ → Bool
+fits? i x = ltb x (2 ^ 64)
+
+word-fits : (i : ℕ) → i < 2048 → getD all i 0 < 2 ^ 64
+unfolding fits? all
+word-fits i h = ltb→lt (getD all i 0) (2 ^ 64) (entry-at fits? all tt i (subst (λ (n : ℕ). i < n) (sym count) h))
+
+-- table j, and those after it
+abbrev pub table : ℕ → List ℕ
+table j = drop (256 * j) all
+
+module _ (j b : ℕ) (hj : j < 8) (hb : b < 256) where
+  pub word-right : getD (table j) b 0 ≡ entry j b
+  word-right =
+      let q : (256 * j + b) / 256 ≡ j = omega arith in
+      let r : (256 * j + b) % 256 ≡ b = omega arith in
+      getD-drop (256 * j) all b 0 ∙ word-at (256 * j + b) (omega arith) ∙ ap₂ entry q r
+
+  pub word-small : getD (table j) b 0 < 2 ^ 64
+  word-small = rw getD-drop (word-fits (256 * j + b) (omega arith))

@@ -6,13 +6,13 @@ use mathlib.Core.List.{List, [], _∷_}
 use lib.ListN.{length, getD, take, drop, set, replicate, drop-of-length-le}
 use lib.Seq.{drop-cons}
 use borrow.Author.Tests.{eq-eqb, ne-eqb, le-leb, lt-leb}
-use Rattle.frames.specs.declared.Held.{Held}
+use Rattle.lines.specs.declared.Held.{Held}
+use Rattle.lines.specs.declared.Said.{Said}
+use Rattle.lines.specs.Lines.{longest}
+use Rattle.lines.specs.Said.{longestAnswer, said}
+use Rattle.frames.specs.Frames.{answerTo}
 use Rattle.trace.specs.declared.Trace.{Trace}
 use Rattle.trace.specs.declared.Fed.{Fed}
-use Rattle.frames.specs.declared.Said.{Said}
-use Rattle.frames.specs.Lines.{longest}
-use Rattle.frames.specs.Frames.{answerTo}
-use Rattle.frames.specs.Said.{longestAnswer, said}
 use Rattle.trace.specs.Feeding.{lineOf, extended, resting, closed, completed, fedFrom, fed, ended}
 
 -- the code's struct

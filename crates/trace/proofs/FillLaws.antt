@@ -10,14 +10,14 @@ use lib.Dec.{leb, eqb}
 use lib.ListN.{length, getD, set, take, drop, replicate, length-append, length-drop, drop-of-length-le}
 use lib.Seq.{take-all, drop-cons, drop-drop, length-take-le, paste, paste-suc, length-paste, take-paste, drop-paste}
 use borrow.Author.Tests.{le-leb, lt-leb, leb-true, leb-false}
+use Rattle.lines.specs.Lines.{lineFor}
+use Rattle.lines.specs.Said.{padded, said, longestAnswer}
+use Rattle.frames.specs.Frames.{answerTo}
+use Rattle.frames.proofs.FrameLaws.{rest-all}
 use Rattle.trace.specs.declared.Trace.{Trace}
 use Rattle.trace.specs.declared.Fed.{Fed}
 use Rattle.trace.specs.declared.Filled.{Filled}
-use Rattle.frames.specs.Lines.{lineFor}
-use Rattle.frames.specs.Frames.{answerTo}
-use Rattle.frames.specs.Said.{padded, said, longestAnswer}
 use Rattle.trace.specs.Feeding.{lineOf, extended, resting, completed, fedFrom, fed, ended, answerIn, afterAll, answersAll, Run, runFrom, run, Fills}
-use Rattle.frames.proofs.FrameLaws.{rest-all}
 use Rattle.trace.proofs.TraceLaws.{Split, fed-line, either}
 
 -- an answer is no longer than its array

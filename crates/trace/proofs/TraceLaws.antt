@@ -12,15 +12,16 @@ use lib.Dec.{eqb, leb}
 use lib.ListN.{length, take, drop, set, replicate, length-append, length-take, length-set, length-replicate}
 use lib.Seq.{take-all, take-append-le, take-append-seam, take-suc-set}
 use borrow.Author.Tests.{eq-eqb, ne-eqb, le-leb, lt-leb, leb-true, leb-false, eqb-true, eqb-false}
-use Rattle.frames.specs.declared.Held.{Held}
+use Rattle.lines.specs.declared.Held.{Held}
+use Rattle.lines.specs.Lines.{longest, kept, lastLine, linesFrom, lines, lineFor}
+use Rattle.lines.specs.Answers.{Answer, nothing, numbered}
+use Rattle.lines.specs.Said.{padded, said, longestAnswer}
+use Rattle.frames.specs.Frames.{answerTo}
+use Rattle.frames.proofs.FrameLaws.{readable-long}
 use Rattle.trace.specs.declared.Trace.{Trace}
 use Rattle.trace.specs.declared.Fed.{Fed}
-use Rattle.frames.specs.Lines.{longest, kept, lastLine, linesFrom, lines, lineFor}
-use Rattle.frames.specs.Frames.{Answer, nothing, numbered, answerTo}
 use Rattle.trace.specs.Traced.{answers, traced}
-use Rattle.frames.specs.Said.{padded, said, longestAnswer}
 use Rattle.trace.specs.Feeding.{begun, lineOf, extended, resting, completed, fedFrom, fed, ended, answerIn, afterAll, answersAll, afterParts, answersParts, joined, runFrom}
-use Rattle.frames.proofs.FrameLaws.{readable-long}
 
 -- fed in parts is fed at once: the same trace after it, and the answers joined
 pub fed-fed : (t : Trace) (a b : List ℕ)

@@ -5,14 +5,15 @@ use mathlib.Core.Bool.{Bool, cond}
 use mathlib.Core.List.{List, [], _∷_, _++_}
 use lib.Dec.{eqb, leb}
 use lib.ListN.{length, take, drop, set, replicate}
-use Rattle.frames.specs.declared.Held.{Held}
+use Rattle.lines.specs.declared.Held.{Held}
+use Rattle.lines.specs.declared.Said.{Said}
+use Rattle.lines.specs.Lines.{longest, kept}
+use Rattle.lines.specs.Answers.{nothing}
+use Rattle.lines.specs.Said.{longestAnswer, said}
+use Rattle.frames.specs.Frames.{answerTo}
 use Rattle.trace.specs.declared.Trace.{Trace}
 use Rattle.trace.specs.declared.Fed.{Fed}
-use Rattle.frames.specs.declared.Said.{Said}
 use Rattle.trace.specs.declared.Filled.{Filled}
-use Rattle.frames.specs.Lines.{longest, kept}
-use Rattle.frames.specs.Frames.{nothing, answerTo}
-use Rattle.frames.specs.Said.{longestAnswer, said}
 
 -- no record, and nothing read
 abbrev pub begun : Trace

@@ -7,7 +7,7 @@ ghost use mathlib.Core.Path.{_≡_};
 ghost use Prim.Native.Nat.{_+_, _≤_};
 ghost use lib.ListN.{length};
 ghost use lib.Seq.{paste};
-ghost use Rattle.frames.specs.Said.{longestAnswer};
+ghost use Rattle.lines.specs.Said.{longestAnswer};
 ghost use Rattle.trace.specs.Feeding.{begun, fed, completed, ended, run, Fills};
 
 // A trace read so far: the record, and the current line up to one sign more than the longest.

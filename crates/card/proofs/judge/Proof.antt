@@ -1,5 +1,5 @@
 use native.Mathlib.Omega.{arith}
-use Rattle.message.proofs.AnswerLaws.{told-data}
+use Rattle.shapes.proofs.AnswerLaws.{told-data}
 use Rattle.card.proofs.CallLaws.{judge-header, judge-shape, judge-unlisted, judge-listed, judge-end, judge-data}
 use borrow.Author.Needs.{needs}
 use Rattle.card.proofs.judge.Statement.{statement}

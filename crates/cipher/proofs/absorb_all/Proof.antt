@@ -9,8 +9,8 @@ use lib.ListN.{length, drop}
 use mathlib.Core.List.{_++_}
 use Rattle.blocks.specs.Blocks.{taken, absorbed}
 use Rattle.blocks.proofs.Laws.{taken-turn, taken-none}
-use Rattle.cipher.specs.declared.Halves.{Halves}
-use Rattle.cipher.specs.Gost.{rounds}
+use Rattle.gost.specs.declared.Halves.{Halves}
+use Rattle.gost.specs.Gost.{rounds}
 use Rattle.cipher.specs.Code.{added, step}
 use Rattle.cipher.proofs.absorb_all.Statement.{statement}
 use Rattle.cipher.proofs.absorb_all.Tie as tie

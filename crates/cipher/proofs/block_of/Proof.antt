@@ -3,7 +3,7 @@ use mathlib.Core.List.{List, [], _∷_}
 use lib.ListN.{getD}
 use Prim.Native.Nat.{ℕ}
 use Rattle.octets.specs.Numbers.{leOctets}
-use Rattle.cipher.specs.Gost.{block}
+use Rattle.gost.specs.Gost.{block}
 use borrow.Author.Needs.{needs}
 use Rattle.cipher.proofs.block_of.Statement.{statement}
 use Rattle.cipher.proofs.block_of.Tie as tie

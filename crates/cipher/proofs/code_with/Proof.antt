@@ -3,9 +3,9 @@ use mathlib.Core.Path.{ap, _∙_}
 use mathlib.Core.List.{List}
 use Prim.Native.Nat.{ℕ}
 use Rattle.octets.specs.Numbers.{leOctets}
+use Rattle.gost.specs.declared.Halves.{Halves}
 use Rattle.cipher.specs.Code.{codeOf, state, start}
 use Rattle.cipher.specs.Answers.{noCode}
-use Rattle.cipher.specs.declared.Halves.{Halves}
 use Rattle.cipher.proofs.AnswerLaws.{no-octets, no-whole, string-fits}
 use native.Mathlib.Omega.{arith}
 use borrow.Author.Needs.{needs}

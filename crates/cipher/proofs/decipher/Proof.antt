@@ -1,8 +1,8 @@
 use denote.Ref.{now}
-use mathlib.Core.Path.{ap, _∙_}
+use mathlib.Core.Path.{ap, ap₂, _∙_}
 use mathlib.Core.List.{List}
 use Prim.Native.Nat.{ℕ}
-use Rattle.cipher.specs.Gost.{decipher}
+use Rattle.gost.specs.Gost.{through, back, decipher}
 use Rattle.cipher.specs.Answers.{deciphered, noBlock}
 use Rattle.cipher.proofs.AnswerLaws.{no-key, no-block, fits}
 use borrow.Author.Needs.{needs}
@@ -21,7 +21,7 @@ returns-3 : tie.Need-returns-3
 unfolding deciphered decipher
 returns-3 c =
     let x = c .before .before .before .before .before .before .before .args in
-    ap (λ (y : List ℕ). record { code = 0; bytes = y }) (cc)
+    ap (λ (y : List ℕ). record { code = 0; bytes = y }) (c .decipher-with .ensures ∙ ap₂ (λ (k b : List ℕ). through (back k) b) (c .before .before .subkeys-of .ensures) (c .before .block-at .ensures))
     ∙ fits (now (x .key)) (now (x .block)) (decipher (now (x .key)) (now (x .block))) (search needs) (search needs)
 
 pub decipher-spec : {M : Type 1} → statement M

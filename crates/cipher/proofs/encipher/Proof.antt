@@ -1,8 +1,8 @@
 use denote.Ref.{now}
-use mathlib.Core.Path.{ap, _∙_}
+use mathlib.Core.Path.{ap, ap₂, _∙_}
 use mathlib.Core.List.{List}
 use Prim.Native.Nat.{ℕ}
-use Rattle.cipher.specs.Gost.{encipher}
+use Rattle.gost.specs.Gost.{through, forth, encipher}
 use Rattle.cipher.specs.Answers.{enciphered, noBlock}
 use Rattle.cipher.proofs.AnswerLaws.{no-key, no-block, fits}
 use borrow.Author.Needs.{needs}
@@ -21,7 +21,7 @@ returns-3 : tie.Need-returns-3
 unfolding enciphered encipher
 returns-3 c =
     let x = c .before .before .before .before .before .before .before .args in
-    ap (λ (y : List ℕ). record { code = 0; bytes = y }) (cc)
+    ap (λ (y : List ℕ). record { code = 0; bytes = y }) (c .encipher-with .ensures ∙ ap₂ (λ (k b : List ℕ). through (forth k) b) (c .before .before .subkeys-of .ensures) (c .before .block-at .ensures))
     ∙ fits (now (x .key)) (now (x .block)) (encipher (now (x .key)) (now (x .block))) (search needs) (search needs)
 
 pub encipher-spec : {M : Type 1} → statement M

@@ -1,7 +1,7 @@
 use denote.Ref.{now}
 use mathlib.Core.Path.{sym, ap₂, _∙_}
 use Prim.Native.Nat.{ℕ}
-use Rattle.cipher.proofs.Octets.{halves-at}
+use Rattle.gost.proofs.Octets.{halves-at}
 use borrow.Author.Needs.{needs}
 use Rattle.cipher.proofs.halves_at.Statement.{statement}
 use Rattle.cipher.proofs.halves_at.Tie as tie

@@ -1,14 +1,15 @@
 use denote.Ref.{now}
-use lib.ListN.{drop}
-use Rattle.cipher.proofs.Octets.{subkeys-at, subkeys-none}
+use Rattle.gost.proofs.Octets.{subkeys-eight}
 use borrow.Author.Needs.{needs}
 use Rattle.cipher.proofs.subkeys_of.Statement.{statement}
 use Rattle.cipher.proofs.subkeys_of.Tie as tie
 
 returns : tie.Need-returns
 returns c =
-    let k = now (c .before .before .before .before .before .before .before .before .before .args .key) in
-    cc (subkeys-at 7 0 k, subkeys-at 6 4 k, subkeys-at 5 8 k, subkeys-at 4 12 k, subkeys-at 3 16 k, subkeys-at 2 20 k, subkeys-at 1 24 k, subkeys-at 0 28 k, subkeys-none (drop 32 k))
+    subkeys-eight (now (c .before .before .before .before .before .before .before .before .before .args .key))
+    (c .before .before .before .before .before .before .before .word-at .ensures) (c .before .before .before .before .before .before .word-at2 .ensures) (c .before .before .before .before .before .word-at3 .ensures)
+    (c .before .before .before .before .word-at4 .ensures) (c .before .before .before .word-at5 .ensures) (c .before .before .word-at6 .ensures)
+    (c .before .word-at7 .ensures) (c .word-at8 .ensures)
 
 pub subkeys-of-spec : {M : Type 1} → statement M
 subkeys-of-spec =

@@ -5,9 +5,9 @@ use lib.ListN.{length, take, drop, length-drop}
 use lib.Seq.{length-take-le, drop-drop}
 use Prim.Native.Nat.{ℕ, _+_, _-_, _≤_, _<_}
 use native.Mathlib.Omega.{arith}
-use Rattle.frames.specs.Said.{longestAnswer}
-use Rattle.trace.specs.Feeding.{afterAll}
+use Rattle.lines.specs.Said.{longestAnswer}
 use Rattle.frames.proofs.FrameLaws.{rest-all}
+use Rattle.trace.specs.Feeding.{afterAll}
 use Rattle.trace.proofs.FillLaws.{Progress, progress}
 use Rattle.clerk.proofs.Laws.{goes-on-from, used-up}
 use Rattle.clerk.proofs.answer.Statement.{statement}

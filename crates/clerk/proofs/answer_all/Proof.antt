@@ -1,7 +1,7 @@
 use Prim.Native.Nat.{ℕ, _≤_}
 use mathlib.Core.Path.{_≡_, refl}
 use lib.ListN.{length}
-use Rattle.frames.specs.Said.{longestAnswer}
+use Rattle.lines.specs.Said.{longestAnswer}
 use borrow.Author.Needs.{needs}
 use Rattle.clerk.proofs.answer_all.Statement.{statement}
 use Rattle.clerk.proofs.answer_all.Tie as tie

@@ -1,6 +1,6 @@
 use mathlib.Core.Path.{ap, _∙_}
 use denote.Ref.{now}
-use Rattle.cipher.specs.Gost.{subkeys}
+use Rattle.gost.specs.Gost.{subkeys}
 use Rattle.cryptogram.specs.Cryptogram.{doubleCode, cryptogramOf}
 use Rattle.cryptogram.specs.Answers.{yes}
 use Rattle.cryptogram.proofs.AnswerLaws.{no-key, no-data, made}

@@ -2,7 +2,7 @@ use Prim.Native.Nat.{ℕ, _+_, _-_, _*_, _/_, _≤_, _<_}
 use mathlib.Core.Path.{_≡_, refl}
 use lib.ListN.{length, drop, take, replicate}
 use lib.Seq.{paste, paste-zero}
-use Rattle.frames.proofs.LineLaws.{copy-turn, copy-end}
+use Rattle.frames.proofs.PartLaws.{copy-turn, copy-end}
 use Rattle.frames.specs.Frames.{part}
 use borrow.Author.Needs.{needs}
 use Rattle.frames.proofs.block_at.Statement.{statement}

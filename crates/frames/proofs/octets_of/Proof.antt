@@ -4,8 +4,8 @@ use Prim.Native.Nat.{ℕ, _+_, _-_, _*_, _/_, _≤_, _<_}
 use mathlib.Core.Path.{_≡_, refl}
 use mathlib.Core.List.{_++_}
 use lib.ListN.{length, drop, take, replicate}
-use Rattle.frames.proofs.LineLaws.{octets-turn, octets-end}
-use Rattle.frames.specs.Lines.{longest, octetsOf}
+use Rattle.frames.proofs.PartLaws.{octets-turn, octets-end}
+use Rattle.lines.specs.Lines.{longest, octetsOf}
 use borrow.Author.Needs.{needs}
 use Rattle.frames.proofs.octets_of.Statement.{statement}
 use Rattle.frames.proofs.octets_of.Tie as tie

@@ -1,16 +1,10 @@
-use mathlib.Core.Path.{_≡_}
-use lib.ListN.{length}
-use Rattle.lps.proofs.Words.{lps-words}
+use Rattle.lps.proofs.Words.{lps-chain}
 use borrow.Author.Needs.{needs}
 use Rattle.lps.proofs.lps.Statement.{statement}
 use Rattle.lps.proofs.lps.Tie as tie
 
 returns : tie.Need-returns
-returns c =
-    let a = c .before .before .before .before .before .before .before .before .args .t1 in
-    let n : length a ≡ 8 = search needs in
-    let w = lps-words a n in
-    cc
+returns c = search lps-chain
 
 pub lps-spec : {M : Type 1} → statement M
 lps-spec =

@@ -1,9 +1,9 @@
-use Rattle.message.proofs.AnswerLaws.{told-body}
 use mathlib.Core.Path.{sym, _∙_}
 use native.Mathlib.Omega.{arith}
 use borrow.Author.Tests.{not-false}
 use lib.Seq.{length-take-le}
-use Rattle.message.proofs.AnswerLaws.{told-data, told-refused, fits-given, fits-shape, fits-code}
+use Rattle.shapes.proofs.AnswerLaws.{told-data, told-body, told-refused}
+use Rattle.message.proofs.AnswerLaws.{fits-given, fits-shape, fits-code}
 use borrow.Author.Needs.{needs}
 use Rattle.message.proofs.code_fits.Statement.{statement}
 use Rattle.message.proofs.code_fits.Tie as tie

@@ -1,4 +1,5 @@
-use Rattle.message.proofs.AnswerLaws.{told-data, told-refused, open-given, open-shape, open-code, open-data}
+use Rattle.shapes.proofs.AnswerLaws.{told-data, told-refused}
+use Rattle.message.proofs.AnswerLaws.{open-given, open-shape, open-code, open-data}
 use borrow.Author.Needs.{needs}
 use Rattle.message.proofs.open_message.Statement.{statement}
 use Rattle.message.proofs.open_message.Tie as tie

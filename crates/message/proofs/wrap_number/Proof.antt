@@ -1,6 +1,6 @@
 use native.Mathlib.Omega.{arith}
-use Rattle.message.specs.Length.{largest}
-use Rattle.message.proofs.LengthLaws.{place-small}
+use Rattle.shapes.specs.Length.{largest}
+use Rattle.shapes.proofs.LengthLaws.{place-small}
 use Rattle.message.proofs.WrapLaws.{wrap-given, wrap-tag, wrap-most, wrap-place, wrap-room, wrap-fits}
 use borrow.Author.Needs.{needs}
 use Rattle.message.proofs.wrap_number.Statement.{statement}

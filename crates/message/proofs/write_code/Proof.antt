@@ -5,10 +5,10 @@ use native.Mathlib.Omega.{arith}
 use lib.ListN.{length, take, length-set}
 use lib.Seq.{length-take-le}
 use denote.Ref.{now}
-use Rattle.message.specs.Shape.{bodySize}
+use Rattle.shapes.specs.Shape.{bodySize}
+use Rattle.shapes.proofs.LengthLaws.{largest-small, place-small}
 use Rattle.message.specs.Code.{codeFor}
 use Rattle.message.specs.Answers.{laid}
-use Rattle.message.proofs.LengthLaws.{largest-small, place-small}
 use Rattle.message.proofs.WrapLaws.{code-stored}
 use borrow.Author.Needs.{needs}
 use Rattle.message.proofs.write_code.Statement.{statement}

@@ -6,7 +6,7 @@ use native.Mathlib.Numerals.{add-one}
 use borrow.Author.Needs.{needs}
 use lib.ListN.{length, set, getD, length-set}
 use lib.Seq.{paste, paste-zero, paste-suc}
-use Rattle.message.specs.Shape.{codeHead}
+use Rattle.shapes.specs.Shape.{codeHead}
 use Rattle.message.specs.Answers.{laid}
 use Rattle.message.proofs.WrapLaws.{data-stored}
 use Rattle.message.proofs.write_data.Statement.{statement}

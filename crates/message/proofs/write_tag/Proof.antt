@@ -1,7 +1,7 @@
 use native.Mathlib.Omega.{arith}
 use lib.ListN.{length-set}
-use Rattle.message.specs.Length.{largest, largestShort}
-use Rattle.message.proofs.LengthLaws.{place-is, place-short, place-long}
+use Rattle.shapes.specs.Length.{largest, largestShort}
+use Rattle.shapes.proofs.LengthLaws.{place-is, place-short, place-long}
 use Rattle.message.proofs.WrapLaws.{tag-short, tag-long}
 use borrow.Author.Needs.{needs}
 use Rattle.message.proofs.write_tag.Statement.{statement}

@@ -1,6 +1,6 @@
-use Rattle.frames.specs.Lines.{kept}
+use Rattle.lines.specs.Lines.{kept}
 use mathlib.Core.Path.{ap}
-use Rattle.frames.specs.declared.Held.{Held}
+use Rattle.lines.specs.declared.Held.{Held}
 use lib.ListN.{replicate}
 use borrow.Author.Needs.{needs}
 use Rattle.trace.proofs.begin.Statement.{statement}

@@ -2,8 +2,8 @@ use Prim.Native.Nat.{ℕ, _+_, _-_, _*_, _/_, _≤_, _<_}
 use mathlib.Core.Path.{_≡_, refl}
 use native.Mathlib.Omega.{arith}
 use lib.ListN.{length, drop, take, replicate}
+use Rattle.lines.specs.Lines.{longest}
 use Rattle.trace.proofs.FeedLaws.{made, feed-line, feed-kept, feed-past, feed-end}
-use Rattle.frames.specs.Lines.{longest}
 use Rattle.trace.specs.Feeding.{fedFrom, fed}
 use borrow.Author.Needs.{needs}
 use Rattle.trace.proofs.feed.Statement.{statement}

@@ -1,0 +1,5 @@
+pub mod LengthLaws
+pub mod ShapeLaws
+pub mod AnswerLaws
+pub mod Examples
+pub mod CommandLaws

@@ -1,0 +1,50 @@
+-- The script commands (01, The soft card, Script). Assumes nothing.
+use Prim.Native.Nat.{ℕ}
+use mathlib.Core.Bool.{Bool, _&&_, cond}
+use mathlib.Core.List.{List, [], _∷_}
+use lib.Dec.{eqb}
+use Rattle.octets.specs.Same.{same}
+use Rattle.shapes.specs.declared.command.Command.{Command}
+use Rattle.shapes.specs.declared.command.Command.the-variants.{SetPin, SetMark, ClearMark}
+use Rattle.shapes.specs.declared.command.Listed.{Listed}
+use Rattle.shapes.specs.declared.command.Listed.the-variants.{One, Unlisted}
+
+-- class, instruction and parameters
+unfoldable pub headerOf : Command → List ℕ
+headerOf SetPin = 0x84 ∷ 0x24 ∷ 0x00 ∷ 0x02 ∷ []
+headerOf SetMark = 0x84 ∷ 0x1e ∷ 0x00 ∷ 0x00 ∷ []
+headerOf ClearMark = 0x84 ∷ 0x18 ∷ 0x00 ∷ 0x00 ∷ []
+
+-- tag of the data
+unfoldable pub tagFor : Command → ℕ
+tagFor SetPin = 0x87
+tagFor SetMark = 0x81
+tagFor ClearMark = 0x81
+
+-- L
+unfoldable pub lengthFor : Command → ℕ
+lengthFor SetPin = 8
+lengthFor SetMark = 0
+lengthFor ClearMark = 0
+
+-- header, tag and L are those of a command
+unfoldable pub isFor : Command → List ℕ → ℕ → ℕ → Bool
+isFor c header tag n = same header (headerOf c) && (eqb tag (tagFor c) && eqb n (lengthFor c))
+
+-- the commands listed
+unfoldable pub listed : List Command
+listed = SetPin ∷ SetMark ∷ ClearMark ∷ []
+
+-- the first of some commands that header, tag and L are for
+unfoldable pub firstOf : List Command → List ℕ → ℕ → ℕ → Listed
+firstOf [] header tag n = Unlisted
+firstOf (c ∷ cs) header tag n = cond (isFor c header tag n) (One c) (firstOf cs header tag n)
+
+-- the command that header, tag and L are for
+unfoldable pub commandOf : List ℕ → ℕ → ℕ → Listed
+commandOf header tag n = firstOf listed header tag n
+
+-- 01's number of an answer: "class, instruction, parameters, tag or L not one listed" is 5
+unfoldable pub refusal : Listed → ℕ
+refusal (One c) = 0
+refusal Unlisted = 5

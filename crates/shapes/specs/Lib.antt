@@ -1,0 +1,4 @@
+pub mod Length
+pub mod Shape
+pub mod Answers
+pub mod Command

@@ -51,7 +51,8 @@ uint8_t box_code(const uint8_t *key, size_t key_length, const uint8_t *string, s
 uint8_t box_derive(const uint8_t *key, size_t key_length, const uint8_t *seed, size_t seed_length, uint8_t *out, size_t out_length);
 
 /* The card master key of an issuer master key of 32 bytes, a card number (one digit a byte, the values 0 to 9 and not characters) and a sequence number (0: none).
- * Each pair of card digits is one byte of the seed, its number 0 to 99. out: 32. Refusals 1, 2. */
+ * The seed is made of the last sixteen digits of card number and sequence number, with zero digits before them where there are fewer (card numbers of 12 and 13
+ * digits; EMV Book 2, option A). Each pair of digits is one byte of it, its number 0 to 99. out: 32. Refusals 1, 2. */
 uint8_t box_card_key(const uint8_t *issuer, size_t issuer_length, const uint8_t *pan, size_t pan_length, uint8_t sequence, uint8_t *out, size_t out_length);
 
 /* The same with the card digits as packed decimal, for a bank whose host packs them: another key for the same card, and the reading by which

@@ -317,13 +317,25 @@ static void of_pin_blocks(void) {
     }
 }
 
+/* The card key with each pair of the sixteen digits as one byte in a base: two of sequence number, before them up to fourteen of card number, and
+ * zeros where it has fewer. */
+static void of_digits(const uint8_t *key, unsigned base, const uint8_t *pan, size_t n, uint8_t sequence, uint8_t *out) {
+    uint8_t digit[16] = {0}, seed[8];
+    size_t i;
+    digit[14] = sequence / 10;
+    digit[15] = sequence % 10;
+    for (i = 0; i < 14 && i < n; i++) digit[13 - i] = pan[n - 1 - i];
+    for (i = 0; i < 8; i++) seed[i] = (uint8_t)(base * digit[2 * i] + digit[2 * i + 1]);
+    expect(box_derive(key, 32, seed, 8, out, 32), 0, "box_derive");
+}
+
 /* Answers that are made of one another: an output that was left as it was would differ. */
 static void of_values(void) {
     struct lent k = lend(32), b = lend(8), d = lend(65), c = lend(4);
-    uint8_t x[8], y[8], u[32], v[32], string[72] = {0}, code[4], seed8[8] = {0}, sequence = (uint8_t)(any() % 100);
-    uint8_t pan[16];
+    uint8_t x[8], y[8], u[32], v[32], w[32], string[72] = {0}, code[4], seed8[8] = {0}, sequence = (uint8_t)(any() % 100);
+    uint8_t pan[19];
     uint16_t counter = (uint16_t)any();
-    size_t i;
+    size_t i, n;
     expect(box_encipher(k.at, 32, b.at, 8, x, 8), 0, "box_encipher");
     expect(box_decipher(k.at, 32, x, 8, y, 8), 0, "box_decipher");
     if (memcmp(y, b.at, 8) != 0) fail("box_decipher of box_encipher");
@@ -341,12 +353,17 @@ static void of_values(void) {
     expect(box_script_key(k.at, 32, b.at, 8, u, 32), 0, "box_script_key");
     expect(box_derive(k.at, 32, b.at, 8, v, 32), 0, "box_derive");
     if (memcmp(u, v, 32) != 0) fail("box_script_key: not the derived one");
-    for (i = 0; i < 16; i++) pan[i] = (uint8_t)(any() % 10);
-    pan[15] = 1 + pan[15] % 9;
-    pan[14] = 1 + pan[14] % 9;
-    expect(box_card_key(k.at, 32, pan, 16, sequence, u, 32), 0, "box_card_key");
-    expect(box_card_key_packed(k.at, 32, pan, 16, sequence, v, 32), 0, "box_card_key_packed");
+    n = 12 + any() % 8;
+    for (i = 0; i < n; i++) pan[i] = (uint8_t)(any() % 10);
+    pan[n - 1] = 1 + pan[n - 1] % 9;
+    pan[n - 2] = 1 + pan[n - 2] % 9;
+    expect(box_card_key(k.at, 32, pan, n, sequence, u, 32), 0, "box_card_key");
+    expect(box_card_key_packed(k.at, 32, pan, n, sequence, v, 32), 0, "box_card_key_packed");
     if (memcmp(u, v, 32) == 0) fail("the two readings of the card digits give one key");
+    of_digits(k.at, 10, pan, n, sequence, w);
+    if (memcmp(u, w, 32) != 0) fail("box_card_key: not the key of the pairs' numbers");
+    of_digits(k.at, 16, pan, n, sequence, w);
+    if (memcmp(v, w, 32) != 0) fail("box_card_key_packed: not the key of the packed digits");
     memcpy(string, d.at, 65);
     string[31] = (uint8_t)(counter >> 8);
     string[32] = (uint8_t)counter;

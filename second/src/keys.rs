@@ -6,13 +6,12 @@ use crate::hash::hash;
 use crate::octets::Key;
 use crate::refusal::Refusal;
 
-/// Y as its 16 digits: the last 16 of card number and sequence number; a shorter X gets zero digits after it.
+/// Y as its 16 digits: the last 16 of card number and sequence number; a shorter X, of 14 or 15, gets zero digits before it.
 fn last_digits(pan: &[u8], sequence: u8) -> Result<[u8; 16], Refusal> {
     if !(12..=19).contains(&pan.len()) || pan.iter().any(|&d| d > 9) || sequence > 99 {
         return Err(Refusal::Card);
     }
-    let mut x = [pan, &[sequence / 10, sequence % 10]].concat();
-    x.resize(x.len().max(16), 0);
+    let x = [&[0, 0], pan, &[sequence / 10, sequence % 10]].concat();
     Ok(x[x.len() - 16..].try_into().expect("16 digits"))
 }
 
@@ -84,9 +83,34 @@ mod tests {
     }
 
     #[test]
-    fn short_numbers_get_zero_digits_after_them() {
-        assert_eq!(seed(&[1; 13], 23), Ok([11, 11, 11, 11, 11, 11, 12, 30]));
-        assert_eq!(seed_packed(&[1; 13], 23), Ok([0x11, 0x11, 0x11, 0x11, 0x11, 0x11, 0x12, 0x30]));
+    fn short_numbers_get_zero_digits_before_them() {
+        assert_eq!(seed(&[1; 12], 23), Ok([0, 11, 11, 11, 11, 11, 11, 23]));
+        assert_eq!(seed(&[1; 13], 23), Ok([1, 11, 11, 11, 11, 11, 11, 23]));
+        assert_eq!(seed_packed(&[1; 13], 23), Ok([0x01, 0x11, 0x11, 0x11, 0x11, 0x11, 0x11, 0x23]));
         assert_eq!(seed(&[1; 14], 23), Ok([11, 11, 11, 11, 11, 11, 11, 23]));
+    }
+
+    /// The digits with the zeros after a short X, as paper 01 had it.
+    fn zeros_after(pan: &[u8], sequence: u8) -> [u8; 16] {
+        let mut x = [pan, &[sequence / 10, sequence % 10]].concat();
+        x.resize(x.len().max(16), 0);
+        x[x.len() - 16..].try_into().unwrap()
+    }
+
+    /// The side matters exactly for X of 14 or 15 digits of which one at least is not 0.
+    #[test]
+    fn only_short_numbers_are_touched() {
+        for length in 12..=19 {
+            let zeros = vec![0; length];
+            let ones = (0..length).map(|place| (0..length).map(|i| (i == place) as u8).collect());
+            for pan in ones.chain([zeros]) {
+                for sequence in [0, 1, 10, 99] {
+                    let touched = length < 14 && (sequence > 0 || pan.contains(&1));
+                    let after = zeros_after(&pan, sequence);
+                    assert_eq!(seed(&pan, sequence) != Ok(paired(after, 10)), touched);
+                    assert_eq!(seed_packed(&pan, sequence) != Ok(paired(after, 16)), touched);
+                }
+            }
+        }
     }
 }

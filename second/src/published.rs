@@ -121,6 +121,7 @@ fn issuer(last: u8) -> Key {
 #[test]
 fn r_010_card_keys() {
     let a1 = digits("123456789012345671");
+    let a2 = digits("6789012345673");
     let a3 = digits("98765432112341");
     for (last, pan, sequence, wanted) in [
         (0x11, &a1, 95, "fb9fb1c1cbf367fc4c4f872a360b907f18f78964efffd714d972738b47f935d9"),
@@ -128,6 +129,10 @@ fn r_010_card_keys() {
         (0x13, &a1, 95, "d02037c2e074d3867a517b5058fe38870d320ff8156eccd2f9dc27cefad05e27"),
         // as 004 A.1 prints it
         (0x14, &a1, 95, "4ea368db926da5b101c32d34f0b2480353db104e44dd57df907e00594b299dcd"),
+        (0x21, &a2, 93, "91bca45ae14ce443d88e99bc407ac8297d6d1953094ff48c5116ce8f08d964ca"),
+        (0x23, &a2, 93, "8c0928f2791be89202b2e5165571cd96a360bc256b27815547c7fa3ae9bdaa14"),
+        // as 004 A.2 prints it
+        (0x24, &a2, 93, "23df44a5dd9e2c755504dc4c736427b86478841d8fea535fb09c34a1410f3097"),
         (0x31, &a3, 98, "d8f6180a5e1b909ad222f137c7385811a869ef6a67c156296a8419d6f337ad14"),
         (0x32, &a3, 98, "3b8fd0a39151b2fba7ad72ca7fbda0ad62ce02d74ae00e3aff24b2221b5f83ca"),
         (0x33, &a3, 98, "298027ce6608a6b26b3c9157dd0457da4f144a7c4b471e5306f40793db04ed73"),
@@ -140,12 +145,11 @@ fn r_010_card_keys() {
     assert_eq!(to_hex(&pairs[..8]), "cd48e4ce3ff50698");
 }
 
-/// A.2 has 15 digits and its zero digit in front: the derivation gives the printed keys, our side of the zero does not.
+/// The MK_SMI of A.2.1 is misprinted; the SK_SMI that 002 A.2 prints comes of the issuer's key in two steps.
 #[test]
-fn r_010_card_keys_of_a_short_number() {
-    let printed = hex("91bca45ae14ce443d88e99bc407ac8297d6d1953094ff48c5116ce8f08d964ca");
-    assert_eq!(crate::derive::derive(&issuer(0x21), &hex("0678901234567393")), printed);
-    assert_ne!(card_key_packed(&issuer(0x21), &digits("6789012345673"), 93), Ok(printed));
+fn r_010_script_key_of_the_issuers() {
+    let master = card_key_packed(&issuer(0x22), &digits("6789012345673"), 93).unwrap();
+    assert_eq!(script_key(&master, &hex("1234567871ddee5b")), hex::<32>(SCRIPTS[1].smi));
 }
 
 #[test]
@@ -273,8 +277,9 @@ fn rfc_6986_and_7836() {
 #[test]
 fn p1_p2_card_digits() {
     assert_eq!(seed(&digits("123456789012345671"), 95), Ok(hex("384e5a0c2238475f")));
-    assert_eq!(seed(&digits("123456789012"), 0), Ok(hex("0c22384e5a0c0000")));
+    assert_eq!(seed(&digits("123456789012"), 0), Ok(hex("000c22384e5a0c00")));
     assert_eq!(seed_packed(&digits("123456789012345671"), 95), Ok(hex("5678901234567195")));
+    assert_eq!(seed_packed(&digits("123456789012"), 0), Ok(hex("0012345678901200")));
     // the example of annex A of 003
     assert_eq!(seed(&digits("12134567890000"), 0).unwrap()[..5], octets("0c0d2d4359"));
 }

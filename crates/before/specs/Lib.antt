@@ -1,2 +1,4 @@
 pub mod Base
 pub mod Statement
+pub mod ZerosAfter
+pub mod ShortCards

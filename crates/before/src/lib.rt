@@ -1,1 +1,2 @@
-// That longer messages and longer lines leave what could be read before as it was: the statement is in specs/, its proof in proofs/. There is no code.
+// What longer messages and lines left as it was, and which cards the side of the zeros touches: the statements are in specs/, their proofs in
+// proofs/. There is no code.

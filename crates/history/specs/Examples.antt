@@ -44,11 +44,11 @@ messageOf field n = 0x81 ∷ (field ++ (replicate n 0xa5 ++ 0x8e ∷ 0x04 ∷ 0x
 abbrev pub at36 : Kind → ℕ
 at36 kind = getD (cardData kind 1 (set (replicate 65 0) 36 0x25)) 36 0
 
--- P1, P2: the seed of a card key
+-- P1, P2 (as Wish 3 has it): the seed of a card key
 abbrev pub seeds : List Bool
 seeds =
     same (Y (1 ∷ 2 ∷ 3 ∷ 4 ∷ 5 ∷ 6 ∷ 7 ∷ 8 ∷ 9 ∷ 0 ∷ 1 ∷ 2 ∷ 3 ∷ 4 ∷ 5 ∷ 6 ∷ 7 ∷ 1 ∷ []) 95) (0x38 ∷ 0x4e ∷ 0x5a ∷ 0x0c ∷ 0x22 ∷ 0x38 ∷ 0x47 ∷ 0x5f ∷ [])
-    ∷ same (Y (1 ∷ 2 ∷ 3 ∷ 4 ∷ 5 ∷ 6 ∷ 7 ∷ 8 ∷ 9 ∷ 0 ∷ 1 ∷ 2 ∷ []) 0) (0x0c ∷ 0x22 ∷ 0x38 ∷ 0x4e ∷ 0x5a ∷ 0x0c ∷ 0x00 ∷ 0x00 ∷ [])
+    ∷ same (Y (1 ∷ 2 ∷ 3 ∷ 4 ∷ 5 ∷ 6 ∷ 7 ∷ 8 ∷ 9 ∷ 0 ∷ 1 ∷ 2 ∷ []) 0) (0x00 ∷ 0x0c ∷ 0x22 ∷ 0x38 ∷ 0x4e ∷ 0x5a ∷ 0x0c ∷ 0x00 ∷ [])
     ∷ []
 
 -- P3 to P7: PIN blocks

@@ -1,20 +1,19 @@
--- The digits of X, its last sixteen, and their pairs, place by place. Assumes nothing.
-use mathlib.Core.Path.{_≡_, refl, sym, ap, ap₂, _∙_, subst}
+-- The digits of X, the test of a card, the sixteen digits of the seed, and their pairs. Assumes nothing.
+use mathlib.Core.Path.{_≡_, sym, ap, _∙_, subst}
 use mathlib.Core.Logic.{⊎-elim}
 use mathlib.Core.Bool.{Bool, true, false, _&&_, and-true, and-false, and-eq-true-iff}
-use mathlib.Core.List.{List, [], _∷_, _++_}
-use Prim.Native.Nat.{ℕ, zero, suc, _+_, _-_, _*_, _/_, _%_, _≤_, _<_, zero-le}
+use mathlib.Core.List.{List, [], _∷_, _++_, append-nil}
+use Prim.Native.Nat.{ℕ, zero, suc, _+_, _-_, _*_, _/_, _%_, _≤_, _<_}
 use native.Mathlib.Nat.{mul-le-mul}
 use native.Mathlib.Omega.{arith}
 use borrow.Author.Tests.{leb-true, le-leb, lt-leb}
 use lib.Dec.{leb}
-use lib.ListN.{length, getD, drop, replicate, length-append, length-drop, length-replicate, List·getD-append, List·getD-eq-default}
-use lib.Seq.{getD-append-add, getD-drop}
-use Rattle.octets.specs.Digits.{digits}
+use lib.ListN.{length, getD, take, drop, length-append, length-drop, length-replicate, drop-of-length-le, List·getD-append}
+use lib.Seq.{getD-append-add, paste, take-all}
+use Rattle.octets.specs.Digits.{digits, pairs}
 use Rattle.octets.proofs.DigitLaws.{digits-at, digits-all}
-use Rattle.octets.proofs.Parts.{zeros-at}
+use Rattle.octets.proofs.Parts.{zeros, take-zeros, Below, below-append, below-drop, below-zeros}
 use Rattle.blocks.proofs.Laws.{lt-or-ge}
-use Rattle.octets.specs.Digits.{pairs}
 use Rattle.keys.specs.CardNumber.{cardFits, X, sixteen}
 
 -- ---- X
@@ -27,30 +26,14 @@ pub X-early : (pan : List ℕ) (q i : ℕ) → i < length pan → getD (X pan q)
 unfolding X
 X-early pan q i h = List·getD-append pan (q / 10 ∷ q % 10 ∷ []) 0 i h
 
-pub X-late : (pan : List ℕ) (q i : ℕ) → length pan ≤ i → getD (X pan q) i 0 ≡ getD (q / 10 ∷ q % 10 ∷ []) (i - length pan) 0
+pub X-late : (pan : List ℕ) (q i j : ℕ) → i ≡ length pan + j → getD (X pan q) i 0 ≡ getD (q / 10 ∷ q % 10 ∷ []) j 0
 unfolding X
-X-late pan q i h =
-    let e : i ≡ length pan + (i - length pan) = omega arith in
-    ap (λ (k : ℕ). getD (pan ++ q / 10 ∷ q % 10 ∷ []) k 0) e ∙ getD-append-add pan (q / 10 ∷ q % 10 ∷ []) (i - length pan) 0
+X-late pan q i j e = ap (λ (k : ℕ). getD (pan ++ q / 10 ∷ q % 10 ∷ []) k 0) e ∙ getD-append-add pan (q / 10 ∷ q % 10 ∷ []) j 0
 
-pub X-tens : (pan : List ℕ) (q i : ℕ) → length pan ≤ i → i - length pan ≡ 0 → q / 10 ≡ getD (X pan q) i 0
-X-tens pan q i h e = sym (X-late pan q i h ∙ ap (λ (j : ℕ). getD (q / 10 ∷ q % 10 ∷ []) j 0) e)
-
-pub X-units : (pan : List ℕ) (q i : ℕ) → length pan ≤ i → i - length pan ≡ 1 → q % 10 ≡ getD (X pan q) i 0
-X-units pan q i h e = sym (X-late pan q i h ∙ ap (λ (j : ℕ). getD (q / 10 ∷ q % 10 ∷ []) j 0) e)
-
-two-past : (a b j : ℕ) → (j ≡ 0 → ⊥) → (j ≡ 1 → ⊥) → 0 ≡ getD (a ∷ b ∷ []) j 0
-two-past a b zero z u = absurd (z refl)
-two-past a b (suc zero) z u = absurd (u refl)
-two-past a b (suc (suc j)) z u = refl
-
-pub X-past : (pan : List ℕ) (q i : ℕ) → length pan ≤ i → (i - length pan ≡ 0 → ⊥) → (i - length pan ≡ 1 → ⊥) → 0 ≡ getD (X pan q) i 0
-X-past pan q i h z u = two-past (q / 10) (q % 10) (i - length pan) z u ∙ sym (X-late pan q i h)
-
-two-small : (a b j : ℕ) → a ≤ 9 → b ≤ 9 → getD (a ∷ b ∷ []) j 0 ≤ 9
+two-small : (a b j : ℕ) → a < 10 → b < 10 → getD (a ∷ b ∷ []) j 0 < 10
 two-small a b zero ha hb = ha
 two-small a b (suc zero) ha hb = hb
-two-small a b (suc (suc j)) ha hb = zero-le
+two-small a b (suc (suc j)) ha hb = omega arith
 
 -- what the test of a card says
 pub record Fits (pan : List ℕ) (q : ℕ) : Type 0 where
@@ -91,46 +74,36 @@ module _ (pan : List ℕ) (q : ℕ) where
   unfolding cardFits
   card-fits l m h t e = e ∙ sym (simp (le-leb _ _ l, le-leb _ _ m, le-leb _ _ h, and-true))
 
-X-small : (pan : List ℕ) (q : ℕ) → Fits pan q → (i : ℕ) → getD (X pan q) i 0 ≤ 9
+pub X-small : (pan : List ℕ) (q : ℕ) → Fits pan q → Below 10 (X pan q)
 X-small pan q f i =
-    ⊎-elim (λ l. subst (λ (x : ℕ). x ≤ 9) (sym (X-early pan q i l)) (digits-at 0 (length pan) pan (f .all) i l))
-    (λ l. subst (λ (x : ℕ). x ≤ 9) (sym (X-late pan q i l)) (two-small (q / 10) (q % 10) (i - length pan) (omega (arith, f .number)) (omega arith)))
+    ⊎-elim (λ l. subst (λ (x : ℕ). x < 10) (sym (X-early pan q i l)) (omega (arith, digits-at 0 (length pan) pan (f .all) i l)))
+    (λ l. subst (λ (x : ℕ). x < 10) (sym (X-late pan q i (i - length pan) (omega arith))) (two-small (q / 10) (q % 10) (i - length pan) (omega (arith, f .number)) (omega arith)))
     (lt-or-ge i (length pan))
 
 -- ---- the last sixteen
 
 module _ (x : List ℕ) where
-  front : List ℕ
-  front = drop (length x - 16) x
-
-  length-front : length front ≡ length x - (length x - 16)
-  unfolding front
-  length-front = length-drop (length x - 16) x
-
   pub length-sixteen : length (sixteen x) ≡ 16
   unfolding sixteen
   length-sixteen = simp (length-append, length-drop, length-replicate) (omega arith)
 
-  pub sixteen-at : (k : ℕ) → k < 16 → getD (sixteen x) k 0 ≡ getD x (length x - 16 + k) 0
-  unfolding sixteen front
-  sixteen-at k h =
-      ⊎-elim (λ l. List·getD-append front (replicate (16 - length x) 0) 0 k l ∙ getD-drop (length x - 16) x k 0)
-      (λ l.
-      let e : k ≡ length front + (k - length front) = omega arith in
-      ap (λ (i : ℕ). getD (front ++ replicate (16 - length x) 0) i 0) e
-      ∙ getD-append-add front (replicate (16 - length x) 0) (k - length front) 0
-      ∙ zeros-at (16 - length x) (k - length front)
-      ∙ sym (List·getD-eq-default x 0 {n = length x - 16 + k} (omega (arith, length-front))))
-      (lt-or-ge k (length front))
+  pub sixteen-small : Below 10 x → Below 10 (sixteen x)
+  unfolding sixteen
+  sixteen-small h = below-append 10 (zeros (16 - length x)) (drop (length x - 16) x) (below-zeros 10 (16 - length x) (omega arith)) (below-drop 10 (length x - 16) x h)
+
+  -- when the loop has put the last digits of X behind the zeros
+  pub sixteen-made : (i : ℕ) → 16 - length x + i ≡ 16 → paste (zeros 16) (16 - length x) (drop (length x - 16) x) i ≡ sixteen x
+  unfolding sixteen
+  sixteen-made i h =
+      let d = drop (length x - 16) x in
+      let t : take i d ≡ d = take-all i d (omega (arith, length-drop (length x - 16) x)) in
+      let u : drop (16 - length x + i) (zeros 16) ≡ [] = drop-of-length-le (zeros 16) {i = 16 - length x + i} (omega arith) in
+      simp (take-zeros (16 - length x) 16 (omega arith), t, u, append-nil)
 
 pub sixteen-digits : (pan : List ℕ) (q : ℕ) → Fits pan q → digits 0 16 (sixteen (X pan q)) ≡ true
 sixteen-digits pan q f =
     let x : List ℕ = X pan q in
-    subst (λ (n : ℕ). digits 0 n (sixteen x) ≡ true) (length-sixteen x)
-    (digits-all 0 (sixteen x)
-    (λ i l.
-    let k : i < 16 = omega (arith, length-sixteen x) in
-    subst (λ (d : ℕ). d ≤ 9) (sym (sixteen-at x i k)) (X-small pan q f (length x - 16 + i))))
+    subst (λ (n : ℕ). digits 0 n (sixteen x) ≡ true) (length-sixteen x) (digits-all 0 (sixteen x) (λ i l. omega (arith, sixteen-small x (X-small pan q f) i)))
 
 -- ---- pairs
 

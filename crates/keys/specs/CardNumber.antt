@@ -14,9 +14,9 @@ cardFits pan sequence = leb 12 (length pan) && (leb (length pan) 19 && (digits 0
 unfoldable pub X : List ℕ → ℕ → List ℕ
 X pan sequence = pan ++ sequence / 10 ∷ sequence % 10 ∷ []
 
--- "the last 16 digits of X. A shorter X gets zero digits after it until there are 16."
+-- "the last 16 digits of X. A shorter X gets zero digits" before it "until there are 16" (the side by Wish 3: EMV Book 2, option A)
 unfoldable pub sixteen : List ℕ → List ℕ
-sixteen x = drop (length x - 16) x ++ replicate (16 - length x) 0
+sixteen x = replicate (16 - length x) 0 ++ drop (length x - 16) x
 
 -- "Each pair of digits becomes one byte holding that pair's number, 0 to 99 (annex A of 003), not packed decimal."
 unfoldable pub Y : List ℕ → ℕ → List ℕ

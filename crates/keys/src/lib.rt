@@ -32,41 +32,40 @@ fn card_fits(pan: &[u8], sequence: u8) -> bool
     octets::digits(pan, pan.len(), 0)
 }
 
-// The digit at a place of X, and 0 past its end.
+// The digit at a place of X.
 fn digit_at(pan: &[u8], sequence: u8, at: usize) -> u8
+    requires { ⌜ at ≤ length (now pan) + 1 ⌝ }
     ensures { λ r. ⌜ r ≡ getD (X (now (pan .entry)) sequence) at 0 ⌝ }
 {
     let n = pan.len();
     if at < n {
         return pan[at];
     }
-    if at - n == 0 {
+    if at == n {
         return sequence / 10;
     }
-    if at - n == 1 {
-        return sequence % 10;
-    }
-    0
+    sequence % 10
 }
 
-// The place in X of the first of its last sixteen digits, for a card number of n.
-fn start(n: usize) -> usize
-    requires { ⌜ n ≤ 19 ⌝ }
-    ensures { λ r. ⌜ r ≡ n + 2 - 16 ⌝ }
+// How far a is above b, 0 where it is not.
+fn over(a: usize, b: usize) -> usize
+    ensures { λ r. ⌜ r ≡ a - b ⌝ }
 {
-    if n > 14 { n - 14 } else { 0 }
+    if a > b { a - b } else { 0 }
 }
 
-// The last sixteen digits of X, with zeros after it where it is shorter.
+// The last sixteen digits of X, with zeros before it where it is shorter.
 fn sixteen(pan: &[u8], sequence: u8) -> [u8; 16]
     requires { ⌜ length (now pan) ≤ 19 ⌝ }
     ensures { λ r. ⌜ r ≡ lastSixteen (X (now (pan .entry)) sequence) ⌝ }
 {
     let mut out = [0; 16];
-    let from = start(pan.len());
+    let n = pan.len() + 2;
+    let from = over(n, 16);
+    let ahead = over(16, n);
     let mut i = 0;
-    while i < 16 {
-        out[i] = digit_at(pan, sequence, from + i);
+    while ahead + i < 16 {
+        out[ahead + i] = digit_at(pan, sequence, from + i);
         i += 1;
     }
     out

@@ -1,6 +1,6 @@
 -- The turns of the loop that looks at digits and fillers; pairs of digits; hexadecimal digits. Assumes nothing.
-use Prim.Native.Nat.{ℕ, zero, suc, _+_, _-_, _≤_, _<_, zero-le, suc-le-suc}
-use native.Mathlib.Nat.{not-suc-le-zero, le-of-suc-le-suc, sub-zero, suc-sub-suc}
+use Prim.Native.Nat.{ℕ, zero, suc, _+_, _-_, _*_, _/_, _≤_, _<_, zero-le, suc-le-suc}
+use native.Mathlib.Nat.{add-zero, mul-add-div, div-eq-of-lt, not-suc-le-zero, le-of-suc-le-suc, sub-zero, suc-sub-suc}
 use native.Mathlib.Omega.{arith}
 use native.Mathlib.Numerals.{add-one, sub-one}
 use mathlib.Core.Path.{_≡_, refl, sym, ap, ap₂, _∙_}
@@ -12,6 +12,7 @@ use lib.Dec.{leb, eqb, eqb·suc-zero, eqb→eq}
 use borrow.Author.Tests.{eq-eqb, ne-eqb, le-leb, lt-leb, leb-true, eqb-true}
 use Rattle.octets.specs.Digits.{digits, pairs, hexDigit, hexValue}
 use Rattle.octets.proofs.Table.{at}
+use Rattle.octets.proofs.Parts.{Below}
 
 step-high : (f k x : ℕ) (t : List ℕ) → (k ≡ 0 → ⊥) → 9 < x → digits f k (x ∷ t) ≡ false
 unfolding digits
@@ -103,3 +104,26 @@ length-pairs base (x ∷ y ∷ s) zero e = let z : suc (suc (length s)) ≡ 0 = 
 length-pairs base (x ∷ y ∷ s) (suc k) e =
     let z : suc (suc (length s)) ≡ suc k + suc k = e in
     ap suc (length-pairs base s k (omega arith))
+
+-- pairs of digits say what the digits are, in any base above them
+pair-same : (base a b c d : ℕ) → b < base → d < base → base * a + b ≡ base * c + d → (a ≡ c) × (b ≡ d)
+pair-same base a b c d hb hd e =
+    let q : (x y : ℕ) → y < base → (base * x + y) / base ≡ x = λ x y h. mul-add-div (omega arith) x y ∙ ap (λ (k : ℕ). x + k) (div-eq-of-lt h) ∙ add-zero x in
+    let h : a ≡ c = sym (q a b hb) ∙ ap (λ (k : ℕ). k / base) e ∙ q c d hd in
+    let m : base * a ≡ base * c = ap (λ (k : ℕ). base * k) h in
+    (h, omega arith)
+
+pub pairs-same : (base : ℕ) (s t : List ℕ) (k : ℕ) → length s ≡ k + k → length t ≡ k + k → Below base s → Below base t → pairs base s ≡ pairs base t → s ≡ t
+unfolding pairs
+pairs-same base [] [] k n m hs ht e = refl
+pairs-same base [] (c ∷ t) k n m hs ht e = let z : 0 ≡ k + k = n in let y : suc (length t) ≡ k + k = m in absurd (omega arith)
+pairs-same base (a ∷ s) [] k n m hs ht e = let z : suc (length s) ≡ k + k = n in let y : 0 ≡ k + k = m in absurd (omega arith)
+pairs-same base (a ∷ []) (c ∷ t) k n m hs ht e = let z : 1 ≡ k + k = n in absurd (omega arith)
+pairs-same base (a ∷ b ∷ s) (c ∷ []) k n m hs ht e = let z : 1 ≡ k + k = m in absurd (omega arith)
+pairs-same base (a ∷ b ∷ s) (c ∷ d ∷ t) zero n m hs ht e = let z : suc (suc (length s)) ≡ 0 = n in absurd (omega arith)
+pairs-same base (a ∷ b ∷ s) (c ∷ d ∷ t) (suc k) n m hs ht e =
+    let z : suc (suc (length s)) ≡ suc k + suc k = n in
+    let y : suc (suc (length t)) ≡ suc k + suc k = m in
+    let p = pair-same base a b c d (hs 1) (ht 1) (ap (λ (l : List ℕ). getD l 0 0) e) in
+    let r : s ≡ t = pairs-same base s t k (omega arith) (omega arith) (λ i. hs (suc (suc i))) (λ i. ht (suc (suc i))) (ap (drop 1) e) in
+    ap₂ {C = List ℕ} (λ h l. h ∷ l) (p .0) (ap₂ {C = List ℕ} (λ h l. h ∷ l) (p .1) r)

@@ -77,13 +77,23 @@ octets-take (suc n) [] h i = zero-lt-suc 255
 octets-take (suc n) (x ∷ s) h zero = h zero
 octets-take (suc n) (x ∷ s) h (suc i) = octets-take n s (λ j. h (suc j)) i
 
+-- every element below a bound; octets are the case of 256
+abbrev pub Below : ℕ → List ℕ → Type 0
+Below b s = (i : ℕ) → getD s i 0 < b
+
+pub below-drop : (b n : ℕ) (s : List ℕ) → Below b s → Below b (drop n s)
+below-drop b n s h i = rw getD-drop (h (n + i))
+
+pub below-append : (b : ℕ) (s t : List ℕ) → Below b s → Below b t → Below b (s ++ t)
+below-append b [] t hs ht i = ht i
+below-append b (x ∷ s) t hs ht zero = hs zero
+below-append b (x ∷ s) t hs ht (suc i) = below-append b s t (λ j. hs (suc j)) ht i
+
 pub octets-drop : (n : ℕ) (s : List ℕ) → Octets s → Octets (drop n s)
-octets-drop n s h i = rw getD-drop (h (n + i))
+octets-drop = below-drop 256
 
 pub octets-append : (s t : List ℕ) → Octets s → Octets t → Octets (s ++ t)
-octets-append [] t hs ht i = ht i
-octets-append (x ∷ s) t hs ht zero = hs zero
-octets-append (x ∷ s) t hs ht (suc i) = octets-append s t (λ j. hs (suc j)) ht i
+octets-append = below-append 256
 
 octets-one : (x : ℕ) → x < 256 → Octets (x ∷ [])
 octets-one x h zero = h
@@ -102,6 +112,14 @@ pub zeros-at : (n j : ℕ) → getD (zeros n) j 0 ≡ 0
 zeros-at zero j = refl
 zeros-at (suc n) zero = refl
 zeros-at (suc n) (suc j) = zeros-at n j
+
+pub below-zeros : (b n : ℕ) → 0 < b → Below b (zeros n)
+below-zeros b n h i = rw zeros-at h
+
+pub take-zeros : (k n : ℕ) → k ≤ n → take k (zeros n) ≡ zeros k
+take-zeros zero n h = refl
+take-zeros (suc k) zero h = absurd (not-suc-le-zero h)
+take-zeros (suc k) (suc n) h = ap (λ (s : List ℕ). 0 ∷ s) (take-zeros k n (le-of-suc-le-suc h))
 
 -- what is left of a run of one element
 pub drop-replicate : (n k a : ℕ) → drop n (replicate k a) ≡ replicate (k - n) a

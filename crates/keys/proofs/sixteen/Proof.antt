@@ -1,48 +1,56 @@
-use mathlib.Core.Path.{_≡_, refl, sym, ap, _∙_}
+use mathlib.Core.Path.{_≡_, sym, ap, ap₂, _∙_}
 use mathlib.Core.List.{List}
 use Prim.Native.Nat.{ℕ, _+_, _-_, _≤_}
 use native.Mathlib.Omega.{arith}
 use borrow.Author.Needs.{needs}
-use lib.ListN.{length, set, getD, replicate}
+use lib.ListN.{length, set, drop}
 use lib.Seq.{paste, paste-zero}
-use Rattle.octets.proofs.Parts.{made-turn, made-end}
-use Rattle.keys.specs.CardNumber.{X, sixteen}
-use Rattle.keys.proofs.CardLaws.{length-X, length-sixteen, sixteen-at}
+use Rattle.octets.proofs.Parts.{zeros}
+use Rattle.hash.proofs.BlockLaws.{put-turn}
+use Rattle.keys.specs.CardNumber.{X}
+use Rattle.keys.proofs.CardLaws.{length-X, sixteen-made}
 use Rattle.keys.proofs.sixteen.Statement.{statement}
 use Rattle.keys.proofs.sixteen.Tie as tie
 
 abbrev Inv-loop : tie.InvT-loop
-Inv-loop pan sequence out₀ from i₀ out i = (i ≤ 16) × (out ≡ paste (replicate 16 0) 0 (sixteen (X pan sequence)) i)
+Inv-loop pan sequence out₀ n from ahead i₀ out i =
+    let x = X pan sequence in
+    (from ≡ length x - 16) × (ahead ≡ 16 - length x) × (ahead + i ≤ 16) × (out ≡ paste (zeros 16) ahead (drop from x) i)
 
 abbrev μ-loop : tie.MeasureT-loop
-μ-loop pan sequence out₀ from i₀ out i = 16 - i
+μ-loop pan sequence out₀ n from ahead i₀ out i = 16 - (ahead + i)
 
 loop-holds : tie.Need-loop-holds Inv-loop μ-loop
 loop-holds c =
-    let a = c .before .before .args in
-    (omega arith, paste-zero _ 0 (sixteen (X (a .pan .now) (a .sequence))))
+    let a = c .before .before .before .args in
+    let n = length-X (a .pan .now) (a .sequence) in (
+      c .before .over .ensures ∙ ap (λ (k : ℕ). k - 16) (sym n),
+      c .over2 .ensures ∙ ap (λ (k : ℕ). 16 - k) (sym n),
+      omega (arith, c .over2 .ensures),
+      paste-zero (zeros 16) (c .over2 .result) (drop (c .before .over .result) (X (a .pan .now) (a .sequence))),
+    )
 
 loop-again : tie.Need-loop-again Inv-loop μ-loop
 loop-again c =
-    let a = c .before .before .before .before .before .args in
+    let a = c .before .before .before .before .before .before .args in
     let l = c .before .before .loop in
     let x = X (a .pan .now) (a .sequence) in
-    let v = c .digit-at .result in
-    let m : length (sixteen x) ≡ 16 = length-sixteen x in
-    let e : c .before .before .before .start .result ≡ length x - 16 = c .before .before .before .start .ensures ∙ ap (λ (n : ℕ). n - 16) (sym (length-X (a .pan .now) (a .sequence))) in (
+    let from = c .before .before .before .before .over .result in
+    let ahead = c .before .before .before .over2 .result in (
+      l .inv .0,
+      l .inv .1,
       omega arith,
-      ap (λ (s : List ℕ). set s (l .i) v) (l .inv .1)
-          ∙ made-turn (replicate 16 0) (sixteen x) (l .i) v (omega arith) (omega arith)
-          (c .digit-at .ensures ∙ ap (λ (k : ℕ). getD x (k + l .i) 0) e ∙ sym (sixteen-at x (l .i) (omega arith))),
+      ap₂ (λ (s : List ℕ) (d : ℕ). set s (ahead + l .i) d) (l .inv .3) (c .digit-at .ensures)
+          ∙ put-turn (zeros 16) x ahead from (l .i) (omega arith) (omega (arith, l .inv .0, l .inv .1)),
     )
 
 returns : tie.Need-returns Inv-loop μ-loop
 returns c =
-    let a = c .before .before .before .before .args in
+    let a = c .before .before .before .before .before .args in
     let l = c .before .loop in
     let x = X (a .pan .now) (a .sequence) in
-    let e : l .i ≡ 16 = omega arith in
-    l .inv .1 ∙ ap (paste (replicate 16 0) 0 (sixteen x)) e ∙ made-end (replicate 16 0) (sixteen x) 16 refl (length-sixteen x)
+    l .inv .3 ∙ ap₂ (λ (p q : ℕ). paste (zeros 16) p (drop q x) (l .i)) (l .inv .1) (l .inv .0)
+    ∙ sixteen-made x (l .i) (omega (arith, l .inv .1))
 
 pub sixteen-spec : {M : Type 1} → statement M
 sixteen-spec =
@@ -50,12 +58,16 @@ sixteen-spec =
     (tie.spec
     Inv-loop
     μ-loop
+    (λ c. omega arith)
+    (λ c κs. search needs)
     (λ c κs. search needs)
     loop-holds
     (λ c. omega arith)
+    (λ c. omega arith)
     (λ c κs. search needs)
+    (λ c. omega arith)
     (λ c. search needs)
-    (λ c. search needs)
+    (λ c. omega arith)
     (λ c. search needs)
     loop-again
     returns)

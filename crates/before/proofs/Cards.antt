@@ -7,6 +7,7 @@ use Prim.Native.Nat.{ℕ, zero, suc, _-_, _≤_, _<_}
 use native.Mathlib.Nat.{add-comm}
 use native.Mathlib.Omega.{arith}
 use borrow.Author.Tests.{le-leb, lt-leb}
+use lib.Dec.{leb}
 use lib.ListN.{length, getD, drop, replicate-append-replicate, length-append, length-drop, length-replicate}
 use Rattle.octets.specs.Same.{same}
 use Rattle.octets.specs.Digits.{pairs}
@@ -43,6 +44,14 @@ all-zero k (a ∷ s) e =
 
 either-side : (k n : ℕ) → zeros k ++ zeros n ≡ zeros n ++ zeros k
 either-side k n = replicate-append-replicate k n 0 ∙ ap zeros (add-comm k n) ∙ sym (replicate-append-replicate n k 0)
+
+-- ---- a test beside two bounds
+
+above : (a n b : ℕ) (t : Bool) → b < n → (leb a n && (leb n b && t)) ≡ false
+above a n b t h = simp (lt-leb n b h, and-false)
+
+between : (a n b : ℕ) (t : Bool) → a ≤ n → n ≤ b → (leb a n && (leb n b && t)) ≡ t
+between a n b t l h = simp (le-leb a n l, le-leb n b h)
 
 -- ---- the sixteen digits
 
@@ -92,11 +101,11 @@ module _ (x : List ℕ) where
 
   touched-long : 16 ≤ length x → touched x ≡ false
   unfolding touched
-  touched-long h = simp (lt-leb (length x) 15 (omega arith), and-false)
+  touched-long h = search above
 
-  touched-short : 14 ≤ length x → length x < 16 → touched x ≡ not (same x (zeros (length x)))
+  touched-short : 14 ≤ length x → length x ≤ 15 → touched x ≡ not (same x (zeros (length x)))
   unfolding touched
-  touched-short l h = simp (le-leb _ _ l, le-leb (length x) 15 (omega arith))
+  touched-short l h = search between
 
 -- ---- the seed, in any base above the digits
 
@@ -126,7 +135,7 @@ module _ (base : ℕ) (enough : 10 ≤ base) (x : List ℕ) (least : 14 ≤ leng
 
   seeds : same now then ≡ not (touched x)
   seeds =
-      ⊎-elim (λ l. zeros-same l ∙ sym (ap not (touched-short x least l) ∙ Bool·not-not (same x (zeros (length x)))))
+      ⊎-elim (λ l. zeros-same l ∙ sym (ap not (touched-short x least (omega arith)) ∙ Bool·not-not (same x (zeros (length x)))))
       (λ l. subst (λ (s : List ℕ). same now s ≡ true) (ap (pairs base) (long-same x l)) (same-refl now) ∙ sym (ap not (touched-long x l)))
       (lt-or-ge (length x) 16)
 

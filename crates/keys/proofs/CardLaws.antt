@@ -1,5 +1,5 @@
 -- The digits of X, the test of a card, the sixteen digits of the seed, and their pairs. Assumes nothing.
-use mathlib.Core.Path.{_≡_, sym, ap, _∙_, subst}
+use mathlib.Core.Path.{_≡_, sym, ap, ap₂, _∙_, subst}
 use mathlib.Core.Logic.{⊎-elim}
 use mathlib.Core.Bool.{Bool, true, false, _&&_, and-true, and-false, and-eq-true-iff}
 use mathlib.Core.List.{List, [], _∷_, _++_, append-nil}
@@ -8,12 +8,13 @@ use native.Mathlib.Nat.{mul-le-mul}
 use native.Mathlib.Omega.{arith}
 use borrow.Author.Tests.{leb-true, le-leb, lt-leb}
 use lib.Dec.{leb}
-use lib.ListN.{length, getD, take, drop, length-append, length-drop, length-replicate, drop-of-length-le, List·getD-append}
+use lib.ListN.{length, getD, set, take, drop, length-append, length-drop, length-replicate, drop-of-length-le, List·getD-append}
 use lib.Seq.{getD-append-add, paste, take-all}
 use Rattle.octets.specs.Digits.{digits, pairs}
 use Rattle.octets.proofs.DigitLaws.{digits-at, digits-all}
 use Rattle.octets.proofs.Parts.{zeros, take-zeros, Below, below-append, below-drop, below-zeros}
 use Rattle.blocks.proofs.Laws.{lt-or-ge}
+use Rattle.hash.proofs.BlockLaws.{put-turn}
 use Rattle.keys.specs.CardNumber.{cardFits, X, sixteen}
 
 -- ---- X
@@ -91,7 +92,14 @@ module _ (x : List ℕ) where
   unfolding sixteen
   sixteen-small h = below-append 10 (zeros (16 - length x)) (drop (length x - 16) x) (below-zeros 10 (16 - length x) (omega arith)) (below-drop 10 (length x - 16) x h)
 
-  -- when the loop has put the last digits of X behind the zeros
+  -- a turn of the loop that puts the last digits of X behind the zeros, and when all are put
+  pub sixteen-turn : (s : List ℕ) (k d ahead from i : ℕ) → s ≡ paste (zeros 16) ahead (drop from x) i → k ≡ ahead + i → d ≡ getD x (from + i) 0
+      → ahead + i < 16 → from + i < length x → set s k d ≡ paste (zeros 16) ahead (drop from x) (i + 1)
+  sixteen-turn s k d ahead from i e f g l m =
+      ap (λ (t : List ℕ). set t k d) e
+      ∙ ap₂ (λ (j v : ℕ). set (paste (zeros 16) ahead (drop from x) i) j v) f g
+      ∙ put-turn (zeros 16) x ahead from i l m
+
   pub sixteen-made : (i : ℕ) → 16 - length x + i ≡ 16 → paste (zeros 16) (16 - length x) (drop (length x - 16) x) i ≡ sixteen x
   unfolding sixteen
   sixteen-made i h =

@@ -1,14 +1,12 @@
-use mathlib.Core.Path.{_≡_, sym, ap, ap₂, _∙_}
-use mathlib.Core.List.{List}
+use mathlib.Core.Path.{_≡_, ap₂, _∙_}
 use Prim.Native.Nat.{ℕ, _+_, _-_, _≤_}
 use native.Mathlib.Omega.{arith}
 use borrow.Author.Needs.{needs}
-use lib.ListN.{length, set, drop}
+use lib.ListN.{length, drop}
 use lib.Seq.{paste, paste-zero}
 use Rattle.octets.proofs.Parts.{zeros}
-use Rattle.hash.proofs.BlockLaws.{put-turn}
 use Rattle.keys.specs.CardNumber.{X}
-use Rattle.keys.proofs.CardLaws.{length-X, sixteen-made}
+use Rattle.keys.proofs.CardLaws.{length-X, sixteen-turn, sixteen-made}
 use Rattle.keys.proofs.sixteen.Statement.{statement}
 use Rattle.keys.proofs.sixteen.Tie as tie
 
@@ -24,8 +22,8 @@ loop-holds : tie.Need-loop-holds Inv-loop μ-loop
 loop-holds c =
     let a = c .before .before .before .args in
     let n = length-X (a .pan .now) (a .sequence) in (
-      c .before .over .ensures ∙ ap (λ (k : ℕ). k - 16) (sym n),
-      c .over2 .ensures ∙ ap (λ (k : ℕ). 16 - k) (sym n),
+      omega (arith, c .before .over .ensures, n),
+      omega (arith, c .over2 .ensures, n),
       omega (arith, c .over2 .ensures),
       paste-zero (zeros 16) (c .over2 .result) (drop (c .before .over .result) (X (a .pan .now) (a .sequence))),
     )
@@ -40,8 +38,7 @@ loop-again c =
       l .inv .0,
       l .inv .1,
       omega arith,
-      ap₂ (λ (s : List ℕ) (d : ℕ). set s (ahead + l .i) d) (l .inv .3) (c .digit-at .ensures)
-          ∙ put-turn (zeros 16) x ahead from (l .i) (omega arith) (omega (arith, l .inv .0, l .inv .1)),
+      sixteen-turn x _ _ _ ahead from (l .i) (l .inv .3) (omega arith) (c .digit-at .ensures) (omega arith) (omega (arith, l .inv .0, l .inv .1)),
     )
 
 returns : tie.Need-returns Inv-loop μ-loop

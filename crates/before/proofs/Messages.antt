@@ -1,6 +1,6 @@
 -- Messages of up to 135 bytes read as before, and data of up to 127 bytes are written as before. Assumes nothing.
 use mathlib.Core.Path.{_≡_, refl, sym, ap, ap₂, _∙_}
-use mathlib.Core.Bool.{Bool, true, false, not, _&&_, cond, and-false}
+use mathlib.Core.Bool.{Bool, true, false, not, _&&_, cond, and-false, true≢false}
 use mathlib.Core.List.{List, [], _∷_, _++_}
 use Prim.Native.Nat.{ℕ, _+_, _≤_, _<_}
 use native.Mathlib.Nat.{min-le-left}
@@ -10,26 +10,22 @@ use lib.Dec.{leb, eqb}
 use lib.ListN.{length, getD, take, drop, length-take}
 use Rattle.octets.specs.Same.{same}
 use Rattle.shapes.specs.declared.Opened.the-variants.{Data, Refused}
-use Rattle.shapes.specs.declared.command.Listed.{Listed}
-use Rattle.shapes.specs.declared.command.Listed.the-variants.{One, Unlisted}
 use Rattle.shapes.specs.Length.{largest, largestShort, lengthOf, placeOf}
 use Rattle.shapes.specs.Shape.{tagFits, codeHead, body, bodySize, sizeOf, tagOf, dataOf, bodyOf, codeIn, shape}
-use Rattle.shapes.specs.Command.{commandOf}
 use Rattle.shapes.specs.Answers.{answer, shaped}
 use Rattle.shapes.proofs.LengthLaws.{Form, short, long, form, Says, one, two, none, says, says-short, says-long, field-short, place-short, place-long}
 use Rattle.shapes.proofs.ShapeLaws.{shape-good}
-use Rattle.pin.specs.declared.PinRead.{PinRead}
-use Rattle.pin.specs.Answers.{decipherPin}
 use Rattle.message.specs.Code.{codeFor, message, given, codeFits}
 use Rattle.message.specs.Answers.{openNumber, opened, laid, wrapNumber, wrapped, Written}
 use Rattle.transaction.specs.Transaction.{isOpen}
 use Rattle.card.specs.declared.Card.{Card}
+use Rattle.card.specs.declared.Reply.{Reply}
 use Rattle.card.specs.Record.{sound}
-use Rattle.card.specs.Keys.{smiKey, smcKey}
-use Rattle.card.specs.Calls.{Verdict, strikes, first, input, shapeWrong, phaseWrong, counterFull, pinFormat, refuses, spoils, differs, takes, orderOf, formatFits, pinIn, forCommand, inOpen, judged, scriptAs, step, Script}
+use Rattle.card.specs.Keys.{smiKey}
+use Rattle.card.specs.Calls.{Script, input, shapeWrong, phaseWrong, Verdict, refuse, accept, Message, read, judgedScript, judged, only, dueBy, afterBy, due, after, reply, plain, step}
 use Rattle.before.specs.Statement.{sizeBefore, WritesAsBefore}
 use Rattle.before.specs.Base as base
-use Rattle.before.specs.Base.{largest as largestBefore, lengthOf as lengthBefore, body as bodyBefore, dataOf as dataBefore, bodyOf as partBefore, codeIn as codeBefore, shape as shapeBefore, codeFits as fitsBefore, answer as answerBefore, shaped as shapedBefore, openNumber as numberBefore, opened as openedBefore, message as messageBefore, wrapNumber as wrapBefore, wrapped as wrappedBefore, script as scriptBefore, pinIn as pinBefore, inOpen as inOpenBefore, judged as judgedBefore}
+use Rattle.before.specs.Base.{largest as largestBefore, lengthOf as lengthBefore, body as bodyBefore, dataOf as dataBefore, bodyOf as partBefore, codeIn as codeBefore, shape as shapeBefore, codeFits as fitsBefore, answer as answerBefore, shaped as shapedBefore, openNumber as numberBefore, opened as openedBefore, message as messageBefore, wrapNumber as wrapBefore, wrapped as wrappedBefore, script as scriptBefore}
 
 -- the body of data that one byte counts
 body-short : (t : ℕ) (d : List ℕ) → length d ≤ 127 → body t d ≡ bodyBefore t d
@@ -121,23 +117,8 @@ module _ (m : List ℕ) (h : getD m 1 0 ≤ 127) where
       same-answer (cond (given key header) (cond (shape m) (cond (codeFits key header m) 0 8) 4) 1)
       ∙ ap₂ (λ (x y : Bool). answerBefore (cond (given key header) (cond x (cond y 0 8) 4) 1) m) same-shape (same-fits key header)
 
-  same-pin : (r : Card) → pinIn r m ≡ pinBefore r m
-  unfolding pinIn pinBefore
-  same-pin r = ap (decipherPin (smcKey r)) same-data
-
-  same-command : (r : Card) (header : List ℕ) (q : Listed) → forCommand r header m q ≡ base.forCommand r header m q
-  same-command r header Unlisted = refl
-  same-command r header (One c) =
-      ap₂ (λ (x : Bool) (p : PinRead). first (strikes (eqb (r .counters .failures) 65535) (spoils counterFull) ∷ strikes (not x) differs ∷ strikes (not (formatFits c p)) (spoils pinFormat) ∷ []) (takes (orderOf c p)))
-      (same-fits (smiKey r) header)
-      (same-pin r)
-
-  same-inOpen : (r : Card) (header : List ℕ) → inOpen r header m ≡ inOpenBefore r header m
-  unfolding inOpen inOpenBefore
-  same-inOpen r header =
-      ap₂ (λ (x : Bool) (v : Verdict). first (strikes (not (eqb (length header) 4)) (spoils input) ∷ strikes (not x) (spoils shapeWrong) ∷ []) v)
-      same-shape
-      (ap (λ (n : ℕ). forCommand r header m (commandOf header (tagOf m) n)) same-length ∙ same-command r header (commandOf header (tagOf m) (lengthBefore m)))
+  same-read : (r : Card) (header : List ℕ) → read r header m ≡ base.read r header m
+  same-read r header = rw (same-shape, same-length, same-fits (smiKey r) header, same-data)
 
 -- another length byte: such a message was refused, and one of up to 135 bytes still is
 module _ (m : List ℕ) (l : length m ≤ sizeBefore) (h : 127 < getD m 1 0) where
@@ -176,9 +157,36 @@ module _ (m : List ℕ) (l : length m ≤ sizeBefore) (h : 127 < getD m 1 0) whe
       go true e = simp (e, refused-now, refused-before)
       go false e = simp (e)
 
-  refused-inOpen : (r : Card) (header : List ℕ) → inOpen r header m ≡ inOpenBefore r header m
-  unfolding inOpen inOpenBefore
-  refused-inOpen r header = simp (refused-now, refused-before)
+-- a script by what its message is to the record
+abbrev scripted : Card → List ℕ → Message → Reply
+scripted r h x = cond (sound r) (base.scriptAs r x (judgedScript r h x)) (plain r 1)
+
+script-so : (r : Card) (h m : List ℕ) → step r (Script h m) ≡ scripted r h (read r h m)
+unfolding judged due after
+script-so r h m = go (sound r) (judgedScript r h (read r h m))
+  where
+    go : (b : Bool) (v : Verdict) → reply (cond b (afterBy r (Script h m) v) r) (cond b (dueBy r (Script h m) v) (only 1)) ≡ cond b (base.scriptAs r (read r h m) v) (plain r 1)
+    go true (refuse q) = refl
+    go true accept = refl
+    go false v = refl
+
+-- of a message of no good shape nothing else is read
+unshaped-verdict : (r : Card) (h : List ℕ) (x : Message) → x .shaped ≡ false
+    → judgedScript r h x ≡ refuse (cond (isOpen (r .transaction .phase)) (cond (eqb (length h) 4) shapeWrong input) phaseWrong)
+unfolding judgedScript
+unshaped-verdict r h x e = go (isOpen (r .transaction .phase)) (eqb (length h) 4) (x .shaped) _ e
+  where
+    go : (o l s : Bool) (v : Verdict) → s ≡ false
+        → cond (not o) (refuse phaseWrong) (cond (not l) (refuse input) (cond (not s) (refuse shapeWrong) v)) ≡ refuse (cond o (cond l shapeWrong input) phaseWrong)
+    go false l s v z = refl
+    go true false s v z = refl
+    go true true false v z = refl
+    go true true true v z = absurd (true≢false z)
+
+unshaped : (r : Card) (h : List ℕ) (x y : Message) → x .shaped ≡ false → y .shaped ≡ false → scripted r h x ≡ scripted r h y
+unshaped r h x y ex ey =
+    ap (λ (v : Verdict). cond (sound r) (base.scriptAs r x v) (plain r 1)) (unshaped-verdict r h x ex)
+    ∙ sym (ap (λ (v : Verdict). cond (sound r) (base.scriptAs r y v) (plain r 1)) (unshaped-verdict r h y ey))
 
 -- a message of up to 135 bytes
 module _ (m : List ℕ) (l : length m ≤ sizeBefore) where
@@ -200,7 +208,7 @@ module _ (m : List ℕ) (l : length m ≤ sizeBefore) where
   opened-as-before key header = by-form (λ h. same-opened m h key header) (λ h. refused-opened m l h key header)
 
   pub script-as-before : (r : Card) (header : List ℕ) → step r (Script header m) ≡ base.script r header m
-  unfolding scriptBefore judged judgedBefore
+  unfolding scriptBefore
   script-as-before r header =
-      ap (λ (v : Verdict). scriptAs r (first (strikes (not (sound r)) (refuses input) ∷ strikes (not (isOpen (r .transaction .phase))) (refuses phaseWrong) ∷ []) v))
-      (by-form (λ h. same-inOpen m h r header) (λ h. refused-inOpen m l h r header))
+      script-so r header m
+      ∙ by-form (λ h. ap (scripted r header) (same-read m h r header)) (λ h. unshaped r header (read r header m) (base.read r header m) (refused-now m l h) (refused-before m l h))

@@ -1,27 +1,23 @@
--- Messages, scripts and lines by 01 alone, before Wish 1: L from 0 to 127 in one byte, lines up to 280 digits. Each definition has the name of the
--- one that stands in its place now; what does not touch the length field or the longest line is taken from there. Assumes nothing.
+-- Messages, scripts and lines by 01 alone, before Wish 1: L from 0 to 127 in one byte, lines up to 280 digits. Each definition but those of Script has the
+-- name of the one that stands in its place now; what does not touch the length field or the longest line is taken from there. Assumes nothing.
 use Prim.Native.Nat.{ℕ, _+_}
-use mathlib.Core.Bool.{Bool, not, _&&_, cond}
+use mathlib.Core.Bool.{Bool, _&&_, cond}
 use mathlib.Core.List.{List, [], _∷_, _++_}
 use lib.Dec.{leb, eqb}
 use lib.ListN.{length, getD, take, drop}
 use Rattle.octets.specs.Same.{same}
 use Rattle.shapes.specs.declared.Opened.{Opened}
 use Rattle.shapes.specs.declared.Opened.the-variants.{Data, Refused}
-use Rattle.shapes.specs.declared.command.Listed.{Listed}
-use Rattle.shapes.specs.declared.command.Listed.the-variants.{One, Unlisted}
 use Rattle.shapes.specs.Shape.{tagFits, codeHead, tagOf}
 use Rattle.shapes.specs.Command.{commandOf}
-use Rattle.pin.specs.declared.PinRead.{PinRead}
 use Rattle.pin.specs.Answers.{decipherPin}
 use Rattle.message.specs.Code.{codeFor, given}
 use Rattle.message.specs.Answers.{laid, Written}
-use Rattle.transaction.specs.Transaction.{isOpen}
 use Rattle.card.specs.declared.Card.{Card}
 use Rattle.card.specs.declared.Reply.{Reply}
 use Rattle.card.specs.Record.{sound}
 use Rattle.card.specs.Keys.{smiKey, smcKey}
-use Rattle.card.specs.Calls.{strikes, first, input, shapeWrong, notListed, phaseWrong, counterFull, pinFormat, Verdict, refuses, spoils, differs, takes, orderOf, formatFits, scriptAs}
+use Rattle.card.specs.Calls.{input, number, Verdict, refuse, accept, Message, judgedScript, acceptedScript, refusedScript, plain}
 use Rattle.lines.specs.declared.Held.{Held}
 use Rattle.lines.specs.Lines.{lastFrame, lines, octetsOf, hexadecimal, lineFor}
 use Rattle.lines.specs.Answers.{nothing, Answer, numbered, replied}
@@ -80,38 +76,17 @@ wrapped key header tag d b place =
     (record { code = 0; buffer = laid b place (message key header tag d) })
     (record { code = wrapNumber key header tag (length d) (length b) place; buffer = b })
 
--- Script
-unfoldable pub pinIn : Card → List ℕ → PinRead
-pinIn r m = decipherPin (smcKey r) (dataOf m)
+-- Script: what a message is to a record, and the reply
+abbrev pub read : Card → List ℕ → List ℕ → Message
+read r h m =
+    record { shaped = shape m; command = commandOf h (tagOf m) (lengthOf m); coded = codeFits (smiKey r) h m; block = decipherPin (smcKey r) (dataOf m) }
 
-abbrev pub forCommand : Card → List ℕ → List ℕ → Listed → Verdict
-forCommand r h m Unlisted = spoils notListed
-forCommand r h m (One c) =
-    first
-    (strikes (eqb (r .counters .failures) 65535) (spoils counterFull)
-    ∷ strikes (not (codeFits (smiKey r) h m)) differs
-    ∷ strikes (not (formatFits c (pinIn r m))) (spoils pinFormat)
-    ∷ [])
-    (takes (orderOf c (pinIn r m)))
-
-unfoldable pub inOpen : Card → List ℕ → List ℕ → Verdict
-inOpen r h m =
-    first
-    (strikes (not (eqb (length h) 4)) (spoils input)
-    ∷ strikes (not (shape m)) (spoils shapeWrong)
-    ∷ [])
-    (forCommand r h m (commandOf h (tagOf m) (lengthOf m)))
-
-unfoldable pub judged : Card → List ℕ → List ℕ → Verdict
-judged r h m =
-    first
-    (strikes (not (sound r)) (refuses input)
-    ∷ strikes (not (isOpen (r .transaction .phase))) (refuses phaseWrong)
-    ∷ [])
-    (inOpen r h m)
+abbrev pub scriptAs : Card → Message → Verdict → Reply
+scriptAs r x (refuse q) = plain (refusedScript r q) (number q)
+scriptAs r x accept = plain (acceptedScript r x) 0
 
 unfoldable pub script : Card → List ℕ → List ℕ → Reply
-script r h m = scriptAs r (judged r h m)
+script r h m = cond (sound r) (scriptAs r (read r h m) (judgedScript r h (read r h m))) (plain r (number input))
 
 -- "more than 280 digits is 13"
 unfoldable pub longest : ℕ

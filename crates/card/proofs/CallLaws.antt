@@ -2,13 +2,15 @@
 use Prim.Native.Nat.{ℕ, _+_, _-_, _≤_, _<_}
 use native.Mathlib.Omega.{arith}
 use native.Mathlib.Nat.{add-sub-cancel-left}
-use mathlib.Core.Path.{_≡_, refl, sym, ap, ap₂, _∙_}
-use mathlib.Core.Bool.{Bool, true, false, not, _&&_, _||_, and-false, or-true}
+use mathlib.Core.Path.{_≡_, refl, sym, ap, ap₂, subst, _∙_}
+use mathlib.Core.Bool.{Bool, true, false, not, _&&_, _||_, cond, and-false, or-true}
 use mathlib.Core.List.{List}
 use lib.Dec.{eqb}
-use lib.ListN.{length, take, drop}
+use lib.ListN.{length, take, drop, length-append}
 use borrow.Author.Tests.{eq-eqb, ne-eqb, le-leb, lt-leb, not-true, not-false}
 use Rattle.octets.specs.Same.{same}
+use Rattle.octets.specs.Numbers.{beOctets}
+use Rattle.octets.proofs.NumberLaws.{length-beOctets}
 use Rattle.shapes.specs.declared.Opened.{Opened}
 use Rattle.shapes.specs.declared.Opened.the-variants.{Data, Refused}
 use Rattle.shapes.specs.declared.command.Command.{Command}
@@ -17,12 +19,21 @@ use Rattle.shapes.specs.declared.command.Listed.{Listed}
 use Rattle.shapes.specs.declared.command.Listed.the-variants.{One, Unlisted}
 use Rattle.shapes.specs.Length.{lengthOf}
 use Rattle.shapes.specs.Shape.{tagOf, dataOf, shape}
-use Rattle.shapes.specs.Command.{commandOf}
-use Rattle.shapes.specs.Answers.{shaped}
+use Rattle.shapes.specs.Command.{commandOf, Lists}
+use Rattle.shapes.specs.Answers.{shaped, Tells}
 use Rattle.shapes.proofs.AnswerLaws.{Told, told-data, told-refused}
 use Rattle.cipher.specs.declared.BlockAnswer.{BlockAnswer}
 use Rattle.cipher.specs.Answers.{enciphered}
+use Rattle.cipher.proofs.AnswerLaws as ciphers
+use Rattle.hash.specs.Hash.{hash256}
+use Rattle.hash.proofs.Laws.{length-hash256}
 use Rattle.derive.specs.declared.KeyAnswer.{KeyAnswer}
+use Rattle.derive.specs.Hmac.{hmac}
+use Rattle.derive.specs.Derivation.{derived, cardLabel}
+use Rattle.derive.specs.Answers.{derivation, yes as keyYes}
+use Rattle.derive.proofs.Laws as derivations
+use Rattle.keys.specs.Seeds.{sessionSeed}
+use Rattle.keys.proofs.AnswerLaws.{counter-yes}
 use Rattle.keys.specs.Answers.{sessionKey, scriptKey, counterKey}
 use Rattle.pin.specs.declared.PinRead.{PinRead}
 use Rattle.pin.specs.declared.Counters.{Counters as CounterStruct}
@@ -31,7 +42,8 @@ use Rattle.pin.specs.Answers.{decipherPin, readBlock}
 use Rattle.message.specs.Code.{codeFits}
 use Rattle.cryptogram.specs.declared.Kind.{Kind}
 use Rattle.cryptogram.specs.declared.Answer.{Answer}
-use Rattle.cryptogram.specs.Answers.{cryptogramAnswer, arpcAnswer, kindNumber}
+use Rattle.cryptogram.specs.Answers.{cryptogramAnswer, arpcAnswer, kindNumber, yes as answerYes}
+use Rattle.cryptogram.proofs.AnswerLaws as cryptograms
 use Rattle.transaction.specs.declared.PendingMark.{PendingMark}
 use Rattle.transaction.specs.declared.Transaction.{Transaction}
 use Rattle.transaction.specs.Transaction.{isOpen, none, spoilt, kindFor, begun, isArqc, markFor, markAfter}
@@ -39,11 +51,9 @@ use Rattle.card.specs.declared.Card.{Card}
 use Rattle.card.specs.declared.Reply.{Reply}
 use Rattle.card.specs.Record.{sound, Kept, kept, withTransaction, withKept, withCounters, withSession, oneFailed}
 use Rattle.card.specs.Keys.{sessionKeyOf, smiKey, smcKey, counterKeyOf}
-use Rattle.card.specs.Calls.{plain, step, Open, IssuerAnswer, Script, Close, Withdraw, Counters}
-use Rattle.card.specs.Calls.{opening, openAs, accept, grown, cryptogramFor, arpcFor, answering}
-use Rattle.card.specs.Calls.{laid, closing, withdrawing, counting, countersFor}
-use Rattle.card.specs.Calls.{takes, newPin, newMark, pinIn, forCommand, inOpen, judged, scriptAs, pend}
-use Rattle.card.specs.Inner.{lastCheck}
+use Rattle.card.specs.Calls.{Call, Open, IssuerAnswer, Script, Close, Withdraw, Counters, phaseWrong, Verdict, refuse, accept, first, read, judgedScript, judged, grown, cryptogramFor, arpcFor, countersFor}
+use Rattle.card.specs.Calls.{scriptChecks, gives, newPin, newMark, pend, laid, accepted, due, after, reply, plain, step}
+use Rattle.card.specs.Inner.{scriptAs, takenAs, obeyedAs, judgedAs}
 use Rattle.card.specs.Personalise.{blank, personalised}
 
 -- what is pending laid over what is kept
@@ -65,98 +75,108 @@ lay-done r d t b e f =
     ap₂ (λ (x : Card) (y : Bool). withKept x (record { pin = x .pin; count = x .count; mark = y })) e (f ∙ ap (λ (x : Card). markAfter (t .mark) (x .mark)) e)
 
 -- the keys, the ARPC and the counter block: by the answers of the crates below
-pub key-session : (r : Card) (x : KeyAnswer) → x ≡ sessionKey (r .ac) (r .atc) → x .bytes ≡ sessionKeyOf r
+length-seed : (atc : ℕ) → length (sessionSeed atc) ≡ 8
+unfolding sessionSeed
+length-seed atc = length-append (beOctets 2 atc) _ ∙ ap (λ (k : ℕ). k + 6) (length-beOctets 2 atc)
+
+length-derived : (key label seed : List ℕ) → length (derived key label seed) ≡ 32
+unfolding derived hmac
+length-derived key label seed = length-hash256 _
+
+length-session : (r : Card) → length (sessionKeyOf r) ≡ 32
 unfolding sessionKeyOf
-key-session r x e = ap (λ (y : KeyAnswer). y .bytes) e
+length-session r = length-derived _ _ _
 
-pub key-smi : (r : Card) (x : KeyAnswer) → x ≡ scriptKey (r .smi) (r .transaction .cryptogram) → x .bytes ≡ smiKey r
-unfolding smiKey
-key-smi r x e = ap (λ (y : KeyAnswer). y .bytes) e
+key-made : (key seed : List ℕ) (x : KeyAnswer) → length key ≡ 32 → length seed ≡ 8 → x ≡ derivation key seed → x .bytes ≡ derived key cardLabel seed
+unfolding keyYes
+key-made key seed x k l e = ap (λ (y : KeyAnswer). y .bytes) (e ∙ sym (derivations.fits key seed k l))
 
-pub key-smc : (r : Card) (x : KeyAnswer) → x ≡ scriptKey (r .smc) (r .transaction .cryptogram) → x .bytes ≡ smcKey r
-unfolding smcKey
-key-smc r x e = ap (λ (y : KeyAnswer). y .bytes) e
+pub key-session : (r : Card) (x : KeyAnswer) → length (r .ac) ≡ 32 → x ≡ sessionKey (r .ac) (r .atc) → x .bytes ≡ sessionKeyOf r
+unfolding sessionKeyOf sessionKey
+key-session r x k e = key-made _ _ x k (length-seed (r .atc)) e
+
+pub key-smi : (r : Card) (x : KeyAnswer) → length (r .smi) ≡ 32 → length (r .transaction .cryptogram) ≡ 8 → x ≡ scriptKey (r .smi) (r .transaction .cryptogram) → x .bytes ≡ smiKey r
+unfolding smiKey scriptKey
+key-smi r x k l e = key-made _ _ x k l e
+
+pub key-smc : (r : Card) (x : KeyAnswer) → length (r .smc) ≡ 32 → length (r .transaction .cryptogram) ≡ 8 → x ≡ scriptKey (r .smc) (r .transaction .cryptogram) → x .bytes ≡ smcKey r
+unfolding smcKey scriptKey
+key-smc r x k l e = key-made _ _ x k l e
+
+length-counters : (c : CounterStruct) → length (counterBlock c) ≡ 8
+unfolding counterBlock
+length-counters c =
+    let s = length-beOctets 2 (c .session) in
+    let f = length-beOctets 2 (c .failures) in
+    let d = length-beOctets 2 (c .decipherments) in
+    let a = length-beOctets 2 (c .authentications) in
+    simp length-append (omega arith)
 
 module _ (r : Card) (k : List ℕ) (ek : k ≡ sessionKeyOf r) where
-  pub arpc-made : (csu : List ℕ) (x : Answer) → x ≡ arpcAnswer k (r .transaction .cryptogram) csu → x .bytes ≡ arpcFor r csu
-  unfolding arpcFor
-  arpc-made csu x e = ap (λ (y : Answer). y .bytes) (e ∙ ap (λ (y : List ℕ). arpcAnswer y (r .transaction .cryptogram) csu) ek)
+  pub arpc-made : (csu : List ℕ) (x : Answer) → length (r .transaction .cryptogram) ≡ 8 → length csu ≡ 4 → x ≡ arpcAnswer k (r .transaction .cryptogram) csu → x .bytes ≡ arpcFor r csu
+  unfolding arpcFor answerYes
+  arpc-made csu x g l e =
+      ap (λ (y : Answer). y .bytes)
+      (e ∙ ap (λ (y : List ℕ). arpcAnswer y (r .transaction .cryptogram) csu) ek ∙ sym (cryptograms.arpc-made (sessionKeyOf r) (r .transaction .cryptogram) csu (length-session r) g l))
 
   pub counters-made : (a : KeyAnswer) (b : List ℕ) (x : BlockAnswer) → a ≡ counterKey k → b ≡ counterBlock (r .counters) → x ≡ enciphered (a .bytes) b
       → x .bytes ≡ countersFor r
-  unfolding countersFor counterKeyOf
+  unfolding countersFor counterKeyOf enciphered keyYes
   counters-made a b x ea eb ex =
-      ap (λ (y : BlockAnswer). y .bytes) (ex ∙ ap₂ (λ (y : KeyAnswer) (z : List ℕ). enciphered (y .bytes) z) (ea ∙ ap counterKey ek) eb)
+      ap (λ (y : BlockAnswer). y .bytes)
+      (ex
+      ∙ ap₂ (λ (y : KeyAnswer) (z : List ℕ). enciphered (y .bytes) z) (ea ∙ ap counterKey ek ∙ sym (counter-yes (sessionKeyOf r) (length-session r))) eb
+      ∙ sym (ciphers.fits (hash256 (sessionKeyOf r)) (counterBlock (r .counters)) _ (length-hash256 _) (length-counters (r .counters))))
 
 -- an opened transaction
-pub opened-by : (r : Card) (d k : List ℕ) (kind : Kind) (x : Answer) (t : Transaction) (n : ℕ) → k ≡ sessionKeyOf (grown r) → kind ≡ kindFor (r .mark)
+pub opened-by : (r : Card) (d k : List ℕ) (kind : Kind) (x : Answer) (t : Transaction) (n : ℕ) → length d ≡ 65 → k ≡ sessionKeyOf (grown r) → kind ≡ kindFor (r .mark)
     → x ≡ cryptogramAnswer k kind (r .atc + 1) d → t ≡ begun (r .mark) (x .bytes) → n ≡ kindNumber kind
-    → record { card = withTransaction (grown r) t; code = 0; kind = n; bytes = x .bytes } ≡ openAs r d accept
-unfolding cryptogramFor
-opened-by r d k kind x t n ek ej ex et en =
-    let w : x .bytes ≡ cryptogramAnswer (sessionKeyOf (grown r)) (kindFor (r .mark)) (r .atc + 1) d .bytes =
-    ap (λ (y : Answer). y .bytes) (ex ∙ ap₂ (λ (y : List ℕ) (z : Kind). cryptogramAnswer y z (r .atc + 1) d) ek ej)
+    → record { card = withTransaction (grown r) t; code = 0; kind = n; bytes = x .bytes } ≡ reply (accepted r (Open d)) (gives r (Open d))
+unfolding cryptogramFor answerYes
+opened-by r d k kind x t n l ek ej ex et en =
+    let w : x .bytes ≡ cryptogramFor (grown r) d =
+    ap (λ (y : Answer). y .bytes)
+    (ex ∙ ap₂ (λ (y : List ℕ) (z : Kind). cryptogramAnswer y z (r .atc + 1) d) ek ej ∙ sym (cryptograms.made (sessionKeyOf (grown r)) (kindFor (r .mark)) (r .atc + 1) d (length-session (grown r)) l))
     in
     ap₂ (λ (y : Transaction) (z : ℕ). record { card = withTransaction (grown r) y; code = 0; kind = z; bytes = x .bytes }) et (en ∙ ap kindNumber ej)
     ∙ ap (λ (y : List ℕ). record { card = withTransaction (grown r) (begun (r .mark) y); code = 0; kind = kindNumber (kindFor (r .mark)); bytes = y }) w
 
 -- the refusals of an unsound record, and of a sound one
 module _ (r : Card) (a : Reply) (s : Bool) (e : s ≡ sound r) where
-  module _ (h : not s ≡ true) (z : a ≡ plain r 1) where
-    pub open-unsound : (d : List ℕ) → a ≡ step r (Open d)
-    unfolding opening
-    open-unsound d = z ∙ rw (sym e ∙ not-true s h)
-
-    pub answer-unsound : (x u : List ℕ) → a ≡ step r (IssuerAnswer x u)
-    unfolding answering
-    answer-unsound x u = z ∙ rw (sym e ∙ not-true s h)
-
-    pub script-unsound : (x m : List ℕ) → a ≡ step r (Script x m)
-    unfolding judged
-    script-unsound x m = z ∙ rw (sym e ∙ not-true s h)
-
-    pub close-unsound : a ≡ step r Close
-    unfolding closing
-    close-unsound = z ∙ rw (sym e ∙ not-true s h)
-
-    pub withdraw-unsound : a ≡ step r Withdraw
-    unfolding withdrawing
-    withdraw-unsound = z ∙ rw (sym e ∙ not-true s h)
-
-    pub counters-unsound : a ≡ step r Counters
-    unfolding counting
-    counters-unsound = z ∙ rw (sym e ∙ not-true s h)
+  pub unsound : (c : Call) → not s ≡ true → a ≡ plain r 1 → a ≡ step r c
+  unfolding due after
+  unsound c h z = z ∙ rw (sym e ∙ not-true s h)
 
   module _ (h : not s ≡ false) where
     fine : sound r ≡ true
     fine = sym e ∙ not-false s h
 
     pub withdraw-done : (t : Transaction) → t ≡ none → a ≡ plain (withTransaction r t) 0 → a ≡ step r Withdraw
-    unfolding withdrawing
+    unfolding judged due after
     withdraw-done t n z = z ∙ rw (fine, n)
 
     module _ (o : Bool) (eo : o ≡ isOpen (r .transaction .phase)) where
       pub open-busy : (d : List ℕ) → o ≡ true → a ≡ plain r 6 → a ≡ step r (Open d)
-      unfolding opening
+      unfolding judged due after
       open-busy d b z = z ∙ rw (fine, sym eo ∙ b)
 
       module _ (d : List ℕ) (b : o ≡ false) where
         pub open-input : (length d ≡ 65 → ⊥) → a ≡ plain r 1 → a ≡ step r (Open d)
-        unfolding opening
+        unfolding judged due after
         open-input l z = z ∙ rw (fine, sym eo ∙ b, ne-eqb _ _ l)
 
         module _ (l : length d ≡ 65) where
           pub open-atc : r .atc ≡ 65535 → a ≡ plain r 7 → a ≡ step r (Open d)
-          unfolding opening
+          unfolding judged due after
           open-atc x z = z ∙ rw (fine, sym eo ∙ b, eq-eqb _ _ l, eq-eqb _ _ x)
 
           module _ (x : r .atc ≡ 65535 → ⊥) where
             pub open-session : r .counters .session ≡ 65535 → a ≡ plain r 7 → a ≡ step r (Open d)
-            unfolding opening
+            unfolding judged due after
             open-session y z = z ∙ rw (fine, sym eo ∙ b, eq-eqb _ _ l, ne-eqb _ _ x, eq-eqb _ _ y)
 
-            pub open-done : (r .counters .session ≡ 65535 → ⊥) → a ≡ openAs r d accept → a ≡ step r (Open d)
-            unfolding opening
+            pub open-done : (r .counters .session ≡ 65535 → ⊥) → a ≡ reply (accepted r (Open d)) (gives r (Open d)) → a ≡ step r (Open d)
+            unfolding judged due after
             open-done y z = z ∙ rw (fine, sym eo ∙ b, eq-eqb _ _ l, ne-eqb _ _ x, ne-eqb _ _ y)
 
       module _ (b : not o ≡ true) (z : a ≡ plain r 6) where
@@ -164,47 +184,52 @@ module _ (r : Card) (a : Reply) (s : Bool) (e : s ≡ sound r) where
         shut = sym eo ∙ not-true o b
 
         pub script-idle : (x m : List ℕ) → a ≡ step r (Script x m)
-        unfolding judged
-        script-idle x m = z ∙ rw (fine, shut)
+        unfolding judged judgedScript due after
+        script-idle x m = let v : judged r (Script x m) ≡ refuse phaseWrong = rw shut in z ∙ rw (fine, v, shut)
 
         pub close-idle : a ≡ step r Close
-        unfolding closing
+        unfolding judged due after
         close-idle = z ∙ rw (fine, shut)
 
         pub counters-idle : a ≡ step r Counters
-        unfolding counting
+        unfolding judged due after
         counters-idle = z ∙ rw (fine, shut)
 
       module _ (b : not o ≡ false) where
         ajar : isOpen (r .transaction .phase) ≡ true
         ajar = sym eo ∙ not-false o b
 
-        pub script-on : (x m : List ℕ) → a ≡ scriptAs r (inOpen r x m) → a ≡ step r (Script x m)
-        unfolding judged
-        script-on x m z = z ∙ rw (fine, ajar)
+        by-verdict : (x m : List ℕ) (v : Verdict) → judged r (Script x m) ≡ v → scriptAs r (read r x m) v ≡ step r (Script x m)
+        unfolding due after
+        by-verdict x m (refuse q) w = rw (fine, w, ajar)
+        by-verdict x m accept w = rw (fine, w)
+
+        pub script-on : (x m : List ℕ) → a ≡ judgedAs r x (read r x m) → a ≡ step r (Script x m)
+        unfolding judged judgedScript
+        script-on x m z = z ∙ by-verdict x m (first (drop 1 (scriptChecks r x (read r x m)))) (rw ajar)
 
         pub close-spoilt : (t : Transaction) → r .transaction .spoilt ≡ true → t ≡ none → a ≡ plain (withTransaction r t) 10 → a ≡ step r Close
-        unfolding closing
+        unfolding judged due after
         close-spoilt t p n z = z ∙ rw (fine, ajar, p, n)
 
         pub close-done : (t : Transaction) (d : Card) → r .transaction .spoilt ≡ false → d ≡ withKept r (laid (r .transaction) (kept r)) → t ≡ none
             → a ≡ plain (withTransaction d t) 0 → a ≡ step r Close
-        unfolding closing
+        unfolding judged due after
         close-done t d p l n z = z ∙ ap₂ (λ (x : Card) (y : Transaction). plain (withTransaction x y) 0) l n ∙ rw (fine, ajar, p)
 
     module _ (x u : List ℕ) (o : Bool) (eo : o ≡ isArqc (r .transaction .phase)) where
       pub answer-phase : not o ≡ true → a ≡ plain r 6 → a ≡ step r (IssuerAnswer x u)
-      unfolding answering
+      unfolding judged due after
       answer-phase b z = z ∙ rw (fine, sym eo ∙ not-true o b)
 
       module _ (b : not o ≡ false) where
         pub answer-arpc : (length x ≡ 8 → ⊥) → a ≡ plain r 1 → a ≡ step r (IssuerAnswer x u)
-        unfolding answering
+        unfolding judged due after
         answer-arpc l z = z ∙ rw (fine, sym eo ∙ not-false o b, ne-eqb _ _ l)
 
         module _ (l : length x ≡ 8) where
           pub answer-csu : (length u ≡ 4 → ⊥) → a ≡ plain r 1 → a ≡ step r (IssuerAnswer x u)
-          unfolding answering
+          unfolding judged due after
           answer-csu n z = z ∙ rw (fine, sym eo ∙ not-false o b, eq-eqb _ _ l, ne-eqb _ _ n)
 
           module _ (n : length u ≡ 4) (y : List ℕ) (ey : y ≡ arpcFor r u) (v : Bool) (ev : v ≡ same x y) where
@@ -212,58 +237,63 @@ module _ (r : Card) (a : Reply) (s : Bool) (e : s ≡ sound r) where
             compared = ev ∙ ap (same x) ey
 
             pub answer-differs : not v ≡ true → a ≡ plain r 11 → a ≡ step r (IssuerAnswer x u)
-            unfolding answering
+            unfolding judged due after
             answer-differs w z = z ∙ rw (fine, sym eo ∙ not-false o b, eq-eqb _ _ l, eq-eqb _ _ n, sym compared ∙ not-true v w)
 
             pub answer-done : not v ≡ false → a ≡ plain (withCounters r (r .atc) (withSession (r .counters) 0)) 0 → a ≡ step r (IssuerAnswer x u)
-            unfolding answering
+            unfolding judged due after
             answer-done w z = z ∙ rw (fine, sym eo ∙ not-false o b, eq-eqb _ _ l, eq-eqb _ _ n, sym compared ∙ not-false v w)
 
 pub counters-done : (r : Card) (s o : Bool) (g : List ℕ) → s ≡ sound r → not s ≡ false → o ≡ isOpen (r .transaction .phase) → not o ≡ false → g ≡ countersFor r
     → record { card = r; code = 0; kind = 0; bytes = g } ≡ step r Counters
-unfolding counting
+unfolding judged due after
 counters-done r s o g e h eo b z = rw (sym e ∙ not-false s h, sym eo ∙ not-false o b, z)
 
 -- a script: what an accepted command makes pending, or 9
 pub mark-taken : (r : Card) (b : Bool) (m : PendingMark) (a : Reply) → m ≡ markFor b
     → a ≡ plain (withTransaction r (record { phase = r .transaction .phase; cryptogram = r .transaction .cryptogram; pin = r .transaction .pin; count = r .transaction .count; mark = m; spoilt = r .transaction .spoilt })) 0
-    → a ≡ scriptAs r (takes (newMark b))
+    → a ≡ plain (withTransaction r (pend (newMark b) (r .transaction))) 0
 mark-taken r b m a e z = z ∙ rw e
 
 module _ (r : Card) (d k : List ℕ) (x : PinRead) (a : Reply) (ek : k ≡ smcKey r) (ex : x ≡ decipherPin k d) where
   its : x ≡ decipherPin (smcKey r) d
   its = ex ∙ ap (λ (y : List ℕ). decipherPin y d) ek
 
-  pub pin-no : (x .code ≡ 0 → ⊥) → a ≡ plain (withTransaction r (spoilt (r .transaction))) 9 → a ≡ scriptAs r (lastCheck SetPin (decipherPin (smcKey r) d))
-  pin-no n z = z ∙ rw (ap (λ (y : PinRead). eqb (y .code) 0) (sym its) ∙ ne-eqb _ _ n)
+  abbrev Taken : PinRead → Type 0
+  Taken y = a ≡ takenAs r (One SetPin) y
 
-  pub pin-yes : x .code ≡ 0 → a ≡ plain (withTransaction r (pend (r .transaction) (newPin (x .pin) (x .count)))) 0
-      → a ≡ scriptAs r (lastCheck SetPin (decipherPin (smcKey r) d))
-  pin-yes n z =
-      z ∙ ap (λ (y : PinRead). plain (withTransaction r (pend (r .transaction) (newPin (y .pin) (y .count)))) 0) its
-      ∙ rw (ap (λ (y : PinRead). eqb (y .code) 0) (sym its) ∙ eq-eqb _ _ n)
+  pub pin-no : (x .code ≡ 0 → ⊥) → a ≡ plain (withTransaction r (spoilt (r .transaction))) 9 → Taken (decipherPin (smcKey r) d)
+  pin-no n z = subst Taken its (z ∙ rw (ne-eqb _ _ n))
+
+  pub pin-yes : x .code ≡ 0 → a ≡ plain (withTransaction r (pend (newPin (x .pin) (x .count)) (r .transaction))) 0 → Taken (decipherPin (smcKey r) d)
+  pin-yes n z = subst Taken its (z ∙ rw (eq-eqb _ _ n))
 
 module _ (r : Card) (c : Command) (x : PinRead) (a : Reply) where
-  pub taken-pin : c ≡ SetPin → a ≡ scriptAs r (lastCheck SetPin x) → a ≡ scriptAs r (lastCheck c x)
-  taken-pin e z = z ∙ rw e
+  abbrev Took : Command → Type 0
+  Took k = a ≡ takenAs r (One k) x
 
-  pub taken-set : c ≡ SetMark → a ≡ scriptAs r (takes (newMark true)) → a ≡ scriptAs r (lastCheck c x)
-  taken-set e z = z ∙ rw e
+  pub taken-pin : c ≡ SetPin → Took SetPin → Took c
+  taken-pin e z = subst Took (sym e) z
 
-  pub taken-clear : c ≡ ClearMark → a ≡ scriptAs r (takes (newMark false)) → a ≡ scriptAs r (lastCheck c x)
-  taken-clear e z = z ∙ rw e
+  pub taken-set : c ≡ SetMark → a ≡ plain (withTransaction r (pend (newMark true) (r .transaction))) 0 → Took c
+  taken-set e z = subst Took (sym e) z
+
+  pub taken-clear : c ≡ ClearMark → a ≡ plain (withTransaction r (pend (newMark false) (r .transaction))) 0 → Took c
+  taken-clear e z = subst Took (sym e) z
 
 -- the checks of a listed command
 module _ (r : Card) (c : Command) (h m : List ℕ) (a : Reply) where
-  pub obey-full : r .counters .failures ≡ 65535 → a ≡ plain (withTransaction r (spoilt (r .transaction))) 7 → a ≡ scriptAs r (forCommand r h m (One c))
+  abbrev Obeyed : Type 0
+  Obeyed = a ≡ obeyedAs r (One c) (codeFits (smiKey r) h m) (decipherPin (smcKey r) (dataOf m))
+
+  pub obey-full : r .counters .failures ≡ 65535 → a ≡ plain (withTransaction r (spoilt (r .transaction))) 7 → Obeyed
   obey-full f z = z ∙ rw (eq-eqb _ _ f)
 
   module _ (f : r .counters .failures ≡ 65535 → ⊥) (k : List ℕ) (ek : k ≡ smiKey r) (v : Bool) (ev : v ≡ codeFits k h m) where
     fits : v ≡ codeFits (smiKey r) h m
     fits = ev ∙ ap (λ (x : List ℕ). codeFits x h m) ek
 
-    pub obey-code : not v ≡ true → a ≡ plain (withTransaction (withCounters r (r .atc) (oneFailed (r .counters))) (spoilt (r .transaction))) 8
-        → a ≡ scriptAs r (forCommand r h m (One c))
+    pub obey-code : not v ≡ true → a ≡ plain (withTransaction (withCounters r (r .atc) (oneFailed (r .counters))) (spoilt (r .transaction))) 8 → Obeyed
     obey-code w z = z ∙ rw (ne-eqb _ _ f, sym fits ∙ not-true v w)
 
     -- the key uncounted: the record as before
@@ -272,44 +302,42 @@ module _ (r : Card) (c : Command) (h m : List ℕ) (a : Reply) where
 
     pub obey-taken : not v ≡ false → (d : List ℕ) → d ≡ dataOf m → (s : Card)
         → s ≡ withCounters r (r .atc) (record { session = r .counters .session; failures = r .counters .failures + 1 - 1; decipherments = r .counters .decipherments; authentications = r .counters .authentications })
-        → a ≡ scriptAs s (lastCheck c (decipherPin (smcKey s) d)) → a ≡ scriptAs r (forCommand r h m (One c))
-    unfolding pinIn
+        → a ≡ takenAs s (One c) (decipherPin (smcKey s) d) → Obeyed
     obey-taken w d ed s es z =
         let e : s ≡ r = es ∙ rw (uncounted (r .counters .failures)) in
-        z ∙ ap₂ (λ (x : Card) (y : List ℕ). scriptAs x (lastCheck c (decipherPin (smcKey x) y))) e ed
+        z ∙ ap₂ (λ (x : Card) (y : List ℕ). takenAs x (One c) (decipherPin (smcKey x) y)) e ed
         ∙ rw (ne-eqb _ _ f, sym fits ∙ not-false v w)
 
 -- the checks in an open transaction
-pub judge-header : (r : Card) (h m : List ℕ) (a : Reply) → (length h ≡ 4 → ⊥) → a ≡ plain (withTransaction r (spoilt (r .transaction))) 1
-    → a ≡ scriptAs r (inOpen r h m)
-unfolding inOpen
-judge-header r h m a l z = z ∙ rw (ne-eqb _ _ l)
+module _ (r : Card) (h m : List ℕ) (a : Reply) where
+  abbrev Judged : Type 0
+  Judged = a ≡ judgedAs r h (read r h m)
 
-module _ (r : Card) (h m : List ℕ) (a : Reply) (l : length h ≡ 4) (o : Opened) (eo : o ≡ shaped m) where
-  pub judge-shape : (n : ℕ) → o ≡ Refused n → a ≡ plain (withTransaction r (spoilt (r .transaction))) 4 → a ≡ scriptAs r (inOpen r h m)
-  unfolding inOpen
-  judge-shape n f z = z ∙ rw (eq-eqb _ _ l, told-refused m o n eo f)
+  pub judge-header : (length h ≡ 4 → ⊥) → a ≡ plain (withTransaction r (spoilt (r .transaction))) 1 → Judged
+  judge-header l z = z ∙ rw (ne-eqb _ _ l)
 
-  module _ (t p n : ℕ) (f : o ≡ Data t p n) (q : Listed) (eq : q ≡ commandOf h t n) where
-    told : Told m t p n
-    told = told-data m o t p n eo f
+  module _ (l : length h ≡ 4) (o : Opened) (eo : Tells o (shaped m) (cond (shape m) 0 4) m) where
+    pub judge-shape : (n : ℕ) → o ≡ Refused n → a ≡ plain (withTransaction r (spoilt (r .transaction))) 4 → Judged
+    judge-shape n f z = z ∙ rw (eq-eqb _ _ l, told-refused m o n eo f)
 
-    its-command : q ≡ commandOf h (tagOf m) (lengthOf m)
-    its-command = eq ∙ ap₂ (λ (x y : ℕ). commandOf h x y) (told .the-tag) (told .the-length)
+    module _ (t p n : ℕ) (f : o ≡ Data t p n) (q : Listed) (eq : Lists q h t n) where
+      told : Told m t p n
+      told = told-data m o t p n eo f
 
-    pub judge-unlisted : q ≡ Unlisted → a ≡ plain (withTransaction r (spoilt (r .transaction))) 5 → a ≡ scriptAs r (inOpen r h m)
-    unfolding inOpen
-    judge-unlisted g z = z ∙ rw (eq-eqb _ _ l, told .good, sym its-command ∙ g)
+      its-command : q ≡ commandOf h (tagOf m) (lengthOf m)
+      its-command = eq .is ∙ ap₂ (λ (x y : ℕ). commandOf h x y) (told .the-tag) (told .the-length)
 
-    pub judge-listed : (c : Command) → q ≡ One c → a ≡ scriptAs r (forCommand r h m (One c)) → a ≡ scriptAs r (inOpen r h m)
-    unfolding inOpen
-    judge-listed c g z = z ∙ rw (eq-eqb _ _ l, told .good, sym its-command ∙ g)
+      pub judge-unlisted : q ≡ Unlisted → a ≡ plain (withTransaction r (spoilt (r .transaction))) 5 → Judged
+      judge-unlisted g z = z ∙ rw (eq-eqb _ _ l, told .good, sym its-command ∙ g)
+
+      pub judge-listed : (c : Command) → q ≡ One c → Obeyed r c h m a → Judged
+      judge-listed c g z = z ∙ rw (eq-eqb _ _ l, told .good, sym its-command ∙ g)
 
 -- the data of a message of good shape
-pub judge-end : (m : List ℕ) (o : Opened) (t p n : ℕ) → o ≡ shaped m → o ≡ Data t p n → p + n ≤ length m
+pub judge-end : (m : List ℕ) (o : Opened) (t p n : ℕ) → Tells o (shaped m) (cond (shape m) 0 4) m → o ≡ Data t p n → p + n ≤ length m
 judge-end m o t p n e f = let w = told-data m o t p n e f in let s = w .the-size in omega arith
 
-pub judge-data : (m : List ℕ) (o : Opened) (t p n : ℕ) → o ≡ shaped m → o ≡ Data t p n → take ((p + n) - p) (drop p m) ≡ dataOf m
+pub judge-data : (m : List ℕ) (o : Opened) (t p n : ℕ) → Tells o (shaped m) (cond (shape m) 0 4) m → o ≡ Data t p n → take ((p + n) - p) (drop p m) ≡ dataOf m
 unfolding dataOf
 judge-data m o t p n e f =
     let w = told-data m o t p n e f in

@@ -1,4 +1,4 @@
--- The calls (01, The soft card and Numbered refusals). A call is judged first, by 01's checks in 01's order, and answered second.
+-- The calls (01, The soft card and Numbered refusals): with which number a call is refused, what it gives, and the record after it.
 -- Assumes nothing.
 use Prim.Native.Nat.{ℕ, _+_}
 use mathlib.Core.Bool.{Bool, true, false, not, _&&_, _||_, cond}
@@ -6,12 +6,12 @@ use mathlib.Core.List.{List, [], _∷_}
 use lib.Dec.{eqb}
 use lib.ListN.{length, replicate}
 use Rattle.octets.specs.Same.{same}
-use Rattle.cipher.specs.Answers.{enciphered}
+use Rattle.gost.specs.Gost.{subkeys, encipher}
 use Rattle.pin.specs.declared.PinRead.{PinRead}
 use Rattle.pin.specs.CounterBlock.{counterBlock}
 use Rattle.pin.specs.Answers.{decipherPin}
-use Rattle.cryptogram.specs.Answers.{cryptogramAnswer, arpcAnswer, kindNumber}
-use Rattle.shapes.specs.declared.command.Command.{Command}
+use Rattle.cryptogram.specs.Cryptogram.{cryptogramOf, arpcOf}
+use Rattle.cryptogram.specs.Answers.{kindNumber}
 use Rattle.shapes.specs.declared.command.Command.the-variants.{SetPin, SetMark, ClearMark}
 use Rattle.shapes.specs.declared.command.Listed.{Listed}
 use Rattle.shapes.specs.declared.command.Listed.the-variants.{One, Unlisted}
@@ -25,6 +25,12 @@ use Rattle.card.specs.declared.Card.{Card}
 use Rattle.card.specs.declared.Reply.{Reply}
 use Rattle.card.specs.Record.{sound, Kept, kept, withTransaction, withKept, withCounters, withSession, oneFailed}
 use Rattle.card.specs.Keys.{sessionKeyOf, smiKey, smcKey, counterKeyOf}
+
+pub data Call : Type 0 where
+  Open : List ℕ → Call
+  IssuerAnswer : List ℕ → List ℕ → Call
+  Script : List ℕ → List ℕ → Call
+  Close Withdraw Counters : Call
 
 -- the rows of 01's table that a call of the card answers
 pub data Refusal : Type 0 where
@@ -41,200 +47,184 @@ number pinFormat = 9
 number spoiltClosed = 10
 number arpcDiffers = 11
 
--- the outcome of the first check that strikes; the last word where none does
-pub data Check (A : Type 0) : Type 0 where
-  strikes : Bool → A → Check A
+-- a call is refused by the first check that strikes, and accepted where none does
+pub data Verdict : Type 0 where
+  refuse : Refusal → Verdict
+  accept : Verdict
 
-abbrev pub first : {A : Type 0} → List (Check A) → A → A
-first [] a = a
-first (strikes b x ∷ cs) a = cond b x (first cs a)
+pub data Check : Type 0 where
+  strikes : Bool → Refusal → Check
 
--- an answer without bytes: the record after the call, and the number
-abbrev pub plain : Card → ℕ → Reply
-plain r n = record { card = r; code = n; kind = 0; bytes = replicate 8 0 }
+abbrev pub first : List Check → Verdict
+first [] = accept
+first (strikes b q ∷ cs) = cond b (refuse q) (first cs)
 
--- whether a call is refused, and the record stays as before, or accepted
-pub data Judgment : Type 0 where
-  refuse : Refusal → Judgment
-  accept : Judgment
+-- what a script is to a record: whether its shape is good, its command, whether its code fits under the SMI key, and the PIN block that its data are
+-- under the SMC key
+pub record Message : Type 0 where
+  pub shaped : Bool
+  pub command : Listed
+  pub coded : Bool
+  pub block : PinRead
 
--- Open: 6, 1, 7, after 1 for an unsound record
-unfoldable pub opening : Card → List ℕ → Judgment
-opening r d =
+abbrev pub read : Card → List ℕ → List ℕ → Message
+read r h m =
+    record { shaped = shape m; command = commandOf h (tagOf m) (lengthOf m); coded = codeFits (smiKey r) h m; block = decipherPin (smcKey r) (dataOf m) }
+
+abbrev pub unlisted : Listed → Bool
+unlisted Unlisted = true
+unlisted (One c) = false
+
+-- a new PIN whose block does not read
+abbrev pub unread : Listed → PinRead → Bool
+unread Unlisted x = false
+unread (One SetPin) x = not (eqb (x .code) 0)
+unread (One SetMark) x = false
+unread (One ClearMark) x = false
+
+-- "Script 6, 1 (header), 4, 5, 7, 8, 9."
+abbrev pub scriptChecks : Card → List ℕ → Message → List Check
+scriptChecks r h x =
+    strikes (not (isOpen (r .transaction .phase))) phaseWrong
+    ∷ strikes (not (eqb (length h) 4)) input
+    ∷ strikes (not (x .shaped)) shapeWrong
+    ∷ strikes (unlisted (x .command)) notListed
+    ∷ strikes (eqb (r .counters .failures) 65535) counterFull
+    ∷ strikes (not (x .coded)) codeDiffers
+    ∷ strikes (unread (x .command) (x .block)) pinFormat
+    ∷ []
+
+unfoldable pub judgedScript : Card → List ℕ → Message → Verdict
+judgedScript r h x = first (scriptChecks r h x)
+
+-- the ARPC that the card expects
+unfoldable pub arpcFor : Card → List ℕ → List ℕ
+arpcFor r csu = arpcOf (subkeys 8 (sessionKeyOf r)) (r .transaction .cryptogram) csu
+
+-- "Order: Open 6, 1, 7. Issuer answer 6, 1, 11. Close 6, 1, 10. Counters 6, 1. Withdraw 1": the 1 of Close, Withdraw and Counters is a wrong frame
+-- length, which only a trace brings (Frames); an unsound record's 1 stands ahead of all, in due
+unfoldable pub judged : Card → Call → Verdict
+judged r (Open d) =
     first
-    (strikes (not (sound r)) (refuse input)
-    ∷ strikes (isOpen (r .transaction .phase)) (refuse phaseWrong)
-    ∷ strikes (not (eqb (length d) 65)) (refuse input)
-    ∷ strikes (eqb (r .atc) 65535 || eqb (r .counters .session) 65535) (refuse counterFull)
+    (strikes (isOpen (r .transaction .phase)) phaseWrong
+    ∷ strikes (not (eqb (length d) 65)) input
+    ∷ strikes (eqb (r .atc) 65535 || eqb (r .counters .session) 65535) counterFull
     ∷ [])
-    accept
+judged r (IssuerAnswer arpc csu) =
+    first
+    (strikes (not (isArqc (r .transaction .phase))) phaseWrong
+    ∷ strikes (not (eqb (length arpc) 8 && eqb (length csu) 4)) input
+    ∷ strikes (not (same arpc (arpcFor r csu))) arpcDiffers
+    ∷ [])
+judged r (Script h m) = judgedScript r h (read r h m)
+judged r Close = first (strikes (not (isOpen (r .transaction .phase))) phaseWrong ∷ strikes (r .transaction .spoilt) spoiltClosed ∷ [])
+judged r Withdraw = accept
+judged r Counters = first (strikes (not (isOpen (r .transaction .phase))) phaseWrong ∷ [])
 
--- "counter and session counter grow by 1"
+-- Open: "counter and session counter grow by 1; the session key comes from the new counter"
 abbrev pub grown : Card → Card
 grown r = withCounters r (r .atc + 1) (withSession (r .counters) (r .counters .session + 1))
 
--- "the session key comes from the new counter"
 unfoldable pub cryptogramFor : Card → List ℕ → List ℕ
-cryptogramFor r d = cryptogramAnswer (sessionKeyOf r) (kindFor (r .mark)) (r .atc) d .bytes
+cryptogramFor r d = cryptogramOf (subkeys 8 (sessionKeyOf r)) (kindFor (r .mark)) (r .atc) d
 
-abbrev pub openAs : Card → List ℕ → Judgment → Reply
-openAs r d (refuse q) = plain r (number q)
-openAs r d accept =
-    record {
-      card = withTransaction (grown r) (begun (r .mark) (cryptogramFor (grown r) d));
-      code = 0;
-      kind = kindNumber (kindFor (r .mark));
-      bytes = cryptogramFor (grown r) d;
-    }
+-- Counters: "the enciphered counter block"
+unfoldable pub countersFor : Card → List ℕ
+countersFor r = encipher (counterKeyOf r) (counterBlock (r .counters))
 
--- Issuer answer: 6, 1, 11, after 1 for an unsound record; the ARPC that the card expects
-unfoldable pub arpcFor : Card → List ℕ → List ℕ
-arpcFor r csu = arpcAnswer (sessionKeyOf r) (r .transaction .cryptogram) csu .bytes
+-- what a call is answered
+pub record Answer : Type 0 where
+  pub number : ℕ
+  pub kind : ℕ
+  pub bytes : List ℕ
 
-unfoldable pub answering : Card → List ℕ → List ℕ → Judgment
-answering r arpc csu =
-    first
-    (strikes (not (sound r)) (refuse input)
-    ∷ strikes (not (isArqc (r .transaction .phase))) (refuse phaseWrong)
-    ∷ strikes (not (eqb (length arpc) 8 && eqb (length csu) 4)) (refuse input)
-    ∷ strikes (not (same arpc (arpcFor r csu))) (refuse arpcDiffers)
-    ∷ [])
-    accept
+-- "A refusal returns its number only."
+abbrev pub only : ℕ → Answer
+only n = record { number = n; kind = 0; bytes = replicate 8 0 }
 
--- "on a match the session counter becomes 0"
-abbrev pub answerAs : Card → Judgment → Reply
-answerAs r (refuse q) = plain r (number q)
-answerAs r accept = plain (withCounters r (r .atc) (withSession (r .counters) 0)) 0
+-- what an accepted call gives
+abbrev pub gives : Card → Call → Answer
+gives r (Open d) = record { number = 0; kind = kindNumber (kindFor (r .mark)); bytes = cryptogramFor (grown r) d }
+gives r (IssuerAnswer arpc csu) = only 0
+gives r (Script h m) = only 0
+gives r Close = only 0
+gives r Withdraw = only 0
+gives r Counters = record { number = 0; kind = 0; bytes = countersFor r }
 
--- what a command orders
+-- "24 .. sets the pending PIN; 1e and 18 .. set and clear the pending mark": what a command orders, and orders become pending
 pub data Order : Type 0 where
   newPin : List ℕ → ℕ → Order
   newMark : Bool → Order
 
--- the PIN that a message carries under the SMC key
-unfoldable pub pinIn : Card → List ℕ → PinRead
-pinIn r m = decipherPin (smcKey r) (dataOf m)
+abbrev pub orders : Listed → PinRead → List Order
+orders Unlisted x = []
+orders (One SetPin) x = newPin (x .pin) (x .count) ∷ []
+orders (One SetMark) x = newMark true ∷ []
+orders (One ClearMark) x = newMark false ∷ []
 
--- "24 sets the pending PIN; 1e and 18 set and clear the pending mark"
-abbrev pub orderOf : Command → PinRead → Order
-orderOf SetPin x = newPin (x .pin) (x .count)
-orderOf SetMark x = newMark true
-orderOf ClearMark x = newMark false
+abbrev pub pend : Order → Transaction → Transaction
+pend (newPin p n) t = record { phase = t .phase; cryptogram = t .cryptogram; pin = p; count = n; mark = t .mark; spoilt = t .spoilt }
+pend (newMark b) t = record { phase = t .phase; cryptogram = t .cryptogram; pin = t .pin; count = t .count; mark = markFor b; spoilt = t .spoilt }
 
-abbrev pub formatFits : Command → PinRead → Bool
-formatFits SetPin x = eqb (x .code) 0
-formatFits SetMark x = true
-formatFits ClearMark x = true
+abbrev pub pendAll : List Order → Transaction → Transaction
+pendAll [] t = t
+pendAll (o ∷ os) t = pendAll os (pend o t)
 
--- Script: 6, 1 (header), 4, 5, 7, 8, 9, after 1 for an unsound record. "Every refusal of this call in an open transaction sets the spoilt mark."
-pub data Verdict : Type 0 where
-  refuses : Refusal → Verdict
-  spoils : Refusal → Verdict
-  differs : Verdict
-  takes : Order → Verdict
-
--- the checks of a listed command, and of none
-abbrev pub forCommand : Card → List ℕ → List ℕ → Listed → Verdict
-forCommand r h m Unlisted = spoils notListed
-forCommand r h m (One c) =
-    first
-    (strikes (eqb (r .counters .failures) 65535) (spoils counterFull)
-    ∷ strikes (not (codeFits (smiKey r) h m)) differs
-    ∷ strikes (not (formatFits c (pinIn r m))) (spoils pinFormat)
-    ∷ [])
-    (takes (orderOf c (pinIn r m)))
-
--- the checks in an open transaction
-unfoldable pub inOpen : Card → List ℕ → List ℕ → Verdict
-inOpen r h m =
-    first
-    (strikes (not (eqb (length h) 4)) (spoils input)
-    ∷ strikes (not (shape m)) (spoils shapeWrong)
-    ∷ [])
-    (forCommand r h m (commandOf h (tagOf m) (lengthOf m)))
-
-unfoldable pub judged : Card → List ℕ → List ℕ → Verdict
-judged r h m =
-    first
-    (strikes (not (sound r)) (refuses input)
-    ∷ strikes (not (isOpen (r .transaction .phase))) (refuses phaseWrong)
-    ∷ [])
-    (inOpen r h m)
-
--- an order becomes pending
-abbrev pub pend : Transaction → Order → Transaction
-pend t (newPin p n) = record { phase = t .phase; cryptogram = t .cryptogram; pin = p; count = n; mark = t .mark; spoilt = t .spoilt }
-pend t (newMark b) = record { phase = t .phase; cryptogram = t .cryptogram; pin = t .pin; count = t .count; mark = markFor b; spoilt = t .spoilt }
-
--- "a match leaves the failure counter as before and a mismatch adds 1"
-abbrev pub scriptAs : Card → Verdict → Reply
-scriptAs r (refuses q) = plain r (number q)
-scriptAs r (spoils q) = plain (withTransaction r (spoilt (r .transaction))) (number q)
-scriptAs r differs =
-    plain (withTransaction (withCounters r (r .atc) (oneFailed (r .counters))) (spoilt (r .transaction))) (number codeDiffers)
-scriptAs r (takes o) = plain (withTransaction r (pend (r .transaction) o)) 0
-
--- Close: 6, 1, 10; 1 is an unsound record here, and in a trace a wrong frame length
-pub data Closing : Type 0 where
-  stays : Refusal → Closing
-  drops : Closing
-  closes : Closing
-
-unfoldable pub closing : Card → Closing
-closing r =
-    first
-    (strikes (not (sound r)) (stays input)
-    ∷ strikes (not (isOpen (r .transaction .phase))) (stays phaseWrong)
-    ∷ strikes (r .transaction .spoilt) drops
-    ∷ [])
-    closes
-
--- "a pending PIN or mark becomes the kept one"
+-- Close: "a pending PIN or mark becomes the kept one"
 unfoldable pub laid : Transaction → Kept → Kept
 laid t k =
     record { pin = cond (eqb (t .count) 0) (k .pin) (t .pin); count = cond (eqb (t .count) 0) (k .count) (t .count); mark = markAfter (t .mark) (k .mark) }
 
--- "Spoilt: they are dropped and the answer is 10. Either way no transaction is open."
-abbrev pub closeAs : Card → Closing → Reply
-closeAs r (stays q) = plain r (number q)
-closeAs r drops = plain (withTransaction r none) (number spoiltClosed)
-closeAs r closes = plain (withTransaction (withKept r (laid (r .transaction) (kept r))) none) 0
+-- the record after an accepted call. Issuer answer: "on a match the session counter becomes 0". Withdraw: "drops what is pending and ends the
+-- transaction". Counters: "Changes nothing."
+abbrev pub acceptedScript : Card → Message → Card
+acceptedScript r x = withTransaction r (pendAll (orders (x .command) (x .block)) (r .transaction))
 
--- Withdraw: 1, an unsound record. "drops what is pending and ends the transaction"
-unfoldable pub withdrawing : Card → Judgment
-withdrawing r = first (strikes (not (sound r)) (refuse input) ∷ []) accept
+abbrev pub accepted : Card → Call → Card
+accepted r (Open d) = withTransaction (grown r) (begun (r .mark) (cryptogramFor (grown r) d))
+accepted r (IssuerAnswer arpc csu) = withCounters r (r .atc) (withSession (r .counters) 0)
+accepted r (Script h m) = acceptedScript r (read r h m)
+accepted r Close = withTransaction (withKept r (laid (r .transaction) (kept r))) none
+accepted r Withdraw = withTransaction r none
+accepted r Counters = r
 
-abbrev pub withdrawAs : Card → Judgment → Reply
-withdrawAs r (refuse q) = plain r (number q)
-withdrawAs r accept = plain (withTransaction r none) 0
+-- the table's column "Record after": as before, but for Script, whose every refusal in an open transaction spoils it and whose 8 adds 1 to the failure
+-- counter, and for 10: "pending dropped, none open"
+abbrev pub spoiledBy : Card → Refusal → Card
+spoiledBy r q =
+    withTransaction (withCounters r (r .atc) (cond (eqb (number q) 8) (oneFailed (r .counters)) (r .counters))) (spoilt (r .transaction))
 
--- Counters: 6, 1, as for Close. "the enciphered counter block, in an open transaction. Changes nothing."
-unfoldable pub counting : Card → Judgment
-counting r =
-    first
-    (strikes (not (sound r)) (refuse input)
-    ∷ strikes (not (isOpen (r .transaction .phase))) (refuse phaseWrong)
-    ∷ [])
-    accept
+abbrev pub refusedScript : Card → Refusal → Card
+refusedScript r q = cond (isOpen (r .transaction .phase)) (spoiledBy r q) r
 
-unfoldable pub countersFor : Card → List ℕ
-countersFor r = enciphered (counterKeyOf r) (counterBlock (r .counters)) .bytes
+abbrev pub refused : Card → Call → Refusal → Card
+refused r (Open d) q = r
+refused r (IssuerAnswer arpc csu) q = r
+refused r (Script h m) q = refusedScript r q
+refused r Close q = cond (eqb (number q) 10) (withTransaction r none) r
+refused r Withdraw q = r
+refused r Counters q = r
 
-abbrev pub countersAs : Card → Judgment → Reply
-countersAs r (refuse q) = plain r (number q)
-countersAs r accept = record { card = r; code = 0; kind = 0; bytes = countersFor r }
+-- what is due, and the record after, by the verdict; "Any unsound record gets 1 ahead of all other checks and comes back unchanged, Script included."
+abbrev pub dueBy : Card → Call → Verdict → Answer
+dueBy r c (refuse q) = only (number q)
+dueBy r c accept = gives r c
 
--- the calls, and what each answers
-pub data Call : Type 0 where
-  Open : List ℕ → Call
-  IssuerAnswer : List ℕ → List ℕ → Call
-  Script : List ℕ → List ℕ → Call
-  Close Withdraw Counters : Call
+abbrev pub afterBy : Card → Call → Verdict → Card
+afterBy r c (refuse q) = refused r c q
+afterBy r c accept = accepted r c
+
+unfoldable pub due : Card → Call → Answer
+due r c = cond (sound r) (dueBy r c (judged r c)) (only (number input))
+
+unfoldable pub after : Card → Call → Card
+after r c = cond (sound r) (afterBy r c (judged r c)) r
+
+abbrev pub reply : Card → Answer → Reply
+reply r a = record { card = r; code = a .number; kind = a .kind; bytes = a .bytes }
+
+abbrev pub plain : Card → ℕ → Reply
+plain r n = reply r (only n)
 
 abbrev pub step : Card → Call → Reply
-step r (Open d) = openAs r d (opening r d)
-step r (IssuerAnswer arpc csu) = answerAs r (answering r arpc csu)
-step r (Script h m) = scriptAs r (judged r h m)
-step r Close = closeAs r (closing r)
-step r Withdraw = withdrawAs r (withdrawing r)
-step r Counters = countersAs r (counting r)
+step r c = reply (after r c) (due r c)

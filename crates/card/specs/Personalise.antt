@@ -9,7 +9,7 @@ use Rattle.pin.specs.Answers.{readBlock}
 use Rattle.transaction.specs.Transaction.{none}
 use Rattle.card.specs.declared.Card.{Card}
 use Rattle.card.specs.declared.Reply.{Reply}
-use Rattle.card.specs.Calls.{input, pinFormat, number, strikes, first, plain}
+use Rattle.card.specs.Calls.{input, pinFormat, number, Verdict, refuse, accept, strikes, first, plain}
 
 -- no record: it has no PIN, so every call refuses it
 abbrev pub blank : Card
@@ -42,10 +42,12 @@ fresh ac smi smc atc counters mark block =
     }
 
 -- "refusals 1, then 9": a mark above 01, the format of the PIN block; the other lengths are those of the types
+abbrev pub loading : ℕ → List ℕ → Verdict
+loading mark block = first (strikes (not (leb mark 1)) input ∷ strikes (not (eqb (readBlock block .code) 0)) pinFormat ∷ [])
+
+abbrev pub loadedBy : Card → Verdict → Reply
+loadedBy r (refuse q) = plain blank (number q)
+loadedBy r accept = plain r 0
+
 unfoldable pub personalised : List ℕ → List ℕ → List ℕ → ℕ → List ℕ → ℕ → List ℕ → Reply
-personalised ac smi smc atc counters mark block =
-    first
-    (strikes (not (leb mark 1)) (plain blank (number input))
-    ∷ strikes (not (eqb (readBlock block .code) 0)) (plain blank (number pinFormat))
-    ∷ [])
-    (plain (fresh ac smi smc atc counters mark block) 0)
+personalised ac smi smc atc counters mark block = loadedBy (fresh ac smi smc atc counters mark block) (loading mark block)

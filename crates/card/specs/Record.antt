@@ -8,8 +8,8 @@ use Rattle.transaction.specs.declared.Transaction.{Transaction}
 use Rattle.transaction.specs.Transaction.{pendingFits, restFits}
 use Rattle.card.specs.declared.Card.{Card}
 
--- "A record is sound when its PIN has 4 to 12 digits from 0 to 9 with zeros in the unused places, a pending PIN likewise, and with none open
--- all transaction fields are zero."
+-- "A record is sound when its PIN has 4 to 12 digits from 0 to 9 with zeros in the unused places, a pending PIN likewise (count and places all zero
+-- where none is pending), and with none open all transaction fields are zero."
 unfoldable pub sound : Card → Bool
 sound r = pinFits 0 (r .count) (r .pin) && (pendingFits (r .transaction .count) (r .transaction .pin) && restFits (r .transaction))
 

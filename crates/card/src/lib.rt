@@ -8,15 +8,17 @@ pub use transaction::Phase;
 pub use transaction::Transaction;
 ghost use mathlib.Core.Path.{_≡_};
 ghost use Prim.Native.Nat.{_<_};
+ghost use lib.ListN.{length};
 ghost use Rattle.pin.specs.Answers.{decipherPin};
 ghost use Rattle.shapes.specs.Shape.{dataOf};
+ghost use Rattle.message.specs.Code.{codeFits};
 ghost use Rattle.shapes.specs.declared.command.Command.the-variants.{SetPin};
 ghost use Rattle.shapes.specs.declared.command.Listed.the-variants.{One};
 ghost use Rattle.transaction.specs.Transaction.{spoilt as spoiltOf};
 ghost use Rattle.card.specs.Record.{sound, kept, withTransaction, withKept};
 ghost use Rattle.card.specs.Keys.{sessionKeyOf, smiKey, smcKey};
-ghost use Rattle.card.specs.Calls.{plain, arpcFor, countersFor, openAs, accept, newMark, takes, scriptAs, forCommand, inOpen, laid, step, Open, IssuerAnswer, Script, Close, Withdraw, Counters as CountersCall};
-ghost use Rattle.card.specs.Inner.{lastCheck};
+ghost use Rattle.card.specs.Calls.{plain, arpcFor, countersFor, newMark, pend, laid, accepted, gives, reply, read, step, Open, IssuerAnswer, Script, Close, Withdraw, Counters as CountersCall};
+ghost use Rattle.card.specs.Inner.{takenAs, obeyedAs, judgedAs};
 ghost use Rattle.card.specs.Personalise.{blank as blankAs, personalised};
 
 // The record.
@@ -113,6 +115,7 @@ fn smc_key(c: Card) -> [u8; 32]
 
 // The ARPC that the card expects.
 fn arpc_for(c: Card, csu: &[u8]) -> [u8; 8]
+    requires { ⌜ length (now csu) ≡ 4 ⌝ }
     ensures { λ r. ⌜ r ≡ arpcFor c (now (csu .entry)) ⌝ }
 {
     let key = session_key(c);
@@ -159,8 +162,8 @@ fn lay(c: Card, t: Transaction) -> Card
 
 // An accepted Open, of a record whose counters can grow.
 fn opened(mut c: Card, input: &[u8]) -> Reply
-    requires { ⌜ (c .atc < 65535) × (c .counters .session < 65535) ⌝ }
-    ensures { λ r. ⌜ r ≡ openAs c (now (input .entry)) accept ⌝ }
+    requires { ⌜ (c .atc < 65535) × ((c .counters .session < 65535) × (length (now input) ≡ 65)) ⌝ }
+    ensures { λ r. ⌜ r ≡ reply (accepted c (Open (now (input .entry)))) (gives c (Open (now (input .entry)))) ⌝ }
 {
     c.atc += 1;
     let mut n = c.counters;
@@ -181,7 +184,7 @@ fn opened(mut c: Card, input: &[u8]) -> Reply
 
 // A mark becomes the pending one.
 fn take_mark(mut c: Card, set: bool) -> Reply
-    ensures { λ r. ⌜ r ≡ scriptAs c (takes (newMark set)) ⌝ }
+    ensures { λ r. ⌜ r ≡ plain (withTransaction c (pend (newMark set) (c .transaction))) 0 ⌝ }
 {
     let t = c.transaction;
     let phase = t.phase;
@@ -201,7 +204,7 @@ fn take_mark(mut c: Card, set: bool) -> Reply
 
 // The PIN of an enciphered block becomes the pending one; or 9.
 fn take_pin(mut c: Card, block: &[u8]) -> Reply
-    ensures { λ r. ⌜ r ≡ scriptAs c (lastCheck SetPin (decipherPin (smcKey c) (now (block .entry)))) ⌝ }
+    ensures { λ r. ⌜ r ≡ takenAs c (One SetPin) (decipherPin (smcKey c) (now (block .entry))) ⌝ }
 {
     let key = smc_key(c);
     let x = pin::decipher_pin(&key, block);
@@ -218,7 +221,7 @@ fn take_pin(mut c: Card, block: &[u8]) -> Reply
 
 // What a command orders becomes pending; the block is the message's data.
 fn take(c: Card, command: Command, block: &[u8]) -> Reply
-    ensures { λ r. ⌜ r ≡ scriptAs c (lastCheck command (decipherPin (smcKey c) (now (block .entry)))) ⌝ }
+    ensures { λ r. ⌜ r ≡ takenAs c (One command) (decipherPin (smcKey c) (now (block .entry))) ⌝ }
 {
     match command {
         Command::SetPin => take_pin(c, block),
@@ -230,7 +233,7 @@ fn take(c: Card, command: Command, block: &[u8]) -> Reply
 // The checks of a listed command. The fresh SMI key is counted before the code is looked at, and uncounted on a match.
 fn obey(mut c: Card, command: Command, header: &[u8], message: &[u8], block: &[u8]) -> Reply
     requires { ⌜ now block ≡ dataOf (now message) ⌝ }
-    ensures { λ r. ⌜ r ≡ scriptAs c (forCommand c (now (header .entry)) (now (message .entry)) (One command)) ⌝ }
+    ensures { λ r. ⌜ r ≡ obeyedAs c (One command) (codeFits (smiKey c) (now (header .entry)) (now (message .entry))) (decipherPin (smcKey c) (dataOf (now (message .entry)))) ⌝ }
 {
     let mut n = c.counters;
     if n.failures == 65535 {
@@ -249,7 +252,7 @@ fn obey(mut c: Card, command: Command, header: &[u8], message: &[u8], block: &[u
 
 // The checks of a script in an open transaction.
 fn judge(c: Card, header: &[u8], message: &[u8]) -> Reply
-    ensures { λ r. ⌜ r ≡ scriptAs c (inOpen c (now (header .entry)) (now (message .entry))) ⌝ }
+    ensures { λ r. ⌜ r ≡ judgedAs c (now (header .entry)) (read c (now (header .entry)) (now (message .entry))) ⌝ }
 {
     if header.len() != 4 {
         return spoiled(c, 1);

@@ -1,10 +1,11 @@
 -- What the entry points answer, test by test. Assumes nothing.
 use mathlib.Core.Path.{_≡_, refl, sym, ap, _∙_}
-use mathlib.Core.Bool.{and-false}
-use mathlib.Core.List.{List}
+use mathlib.Core.Bool.{Bool, true, false, _||_, cond, and-false}
+use mathlib.Core.List.{List, [], _∷_}
 use Prim.Native.Nat.{ℕ}
 use native.Mathlib.Omega.{arith}
-use borrow.Author.Tests.{eq-eqb, ne-eqb}
+use borrow.Author.Tests.{eq-eqb, ne-eqb, eqb-true}
+use lib.Dec.{eqb}
 use lib.ListN.{length}
 use Rattle.octets.specs.Lengths.{keyFits}
 use Rattle.gost.specs.Gost.{subkeys}
@@ -13,9 +14,10 @@ use Rattle.cipher.specs.Answers.{coded, codedWith}
 use Rattle.cipher.proofs.AnswerLaws.{string-fits, code-key}
 use Rattle.cryptogram.specs.declared.Kind.{Kind}
 use Rattle.cryptogram.specs.declared.Kind.the-variants.{Arqc, Tc, Aac}
-use Rattle.cryptogram.specs.declared.KindRead.the-variants.{Known}
+use Rattle.cryptogram.specs.declared.KindRead.{KindRead}
+use Rattle.cryptogram.specs.declared.KindRead.the-variants.{Known, Unknown}
 use Rattle.cryptogram.specs.Cryptogram.{twice, doubleCode, cryptogramOf, arpcOf}
-use Rattle.cryptogram.specs.Answers.{yes, no, cryptogramAnswer, arpcAnswer, kindNumber, kindOf, kindCode}
+use Rattle.cryptogram.specs.Answers.{yes, no, cryptogramAnswer, arpcAnswer, kindNumber, kindOf, kindCode, kindValues, ReadsKind}
 use Rattle.cryptogram.proofs.DataLaws.{data-length}
 
 -- the code of 72 bytes comes with no refusal
@@ -72,3 +74,21 @@ kind-accepted kind = ap kindCode (kind-read kind)
 pub kind-refused : (n : ℕ) → ((kind : Kind) → n ≡ kindNumber kind → ⊥) → kindCode (kindOf n) ≡ 1
 unfolding kindCode kindOf
 kind-refused n h = simp (ne-eqb _ _ (h Arqc), ne-eqb _ _ (h Tc), ne-eqb _ _ (h Aac))
+
+-- a number read as a kind
+pub reads-kind : {n : ℕ} {r : KindRead} → r ≡ kindOf n → ReadsKind r n
+unfolding kindOf kindNumber kindCode kindValues
+reads-kind {n} {r} e = record { is = e; its-number = ap kindCode e ∙ of-number (eqb n 0x80) (eqb n 0x40) (eqb n 0x00); its-values = ap kindValues e ∙ of-values (eqb n 0x80) (eqb n 0x40) (eqb n 0x00) refl refl refl }
+  where
+    of-number : (a b c : Bool) → kindCode (cond a (Known Arqc) (cond b (Known Tc) (cond c (Known Aac) Unknown))) ≡ cond (a || (b || c)) 0 1
+    of-number true b c = refl
+    of-number false true c = refl
+    of-number false false true = refl
+    of-number false false false = refl
+
+    of-values : (a b c : Bool) → eqb n 0x80 ≡ a → eqb n 0x40 ≡ b → eqb n 0x00 ≡ c
+        → kindValues (cond a (Known Arqc) (cond b (Known Tc) (cond c (Known Aac) Unknown))) ≡ cond (a || (b || c)) (n ∷ []) []
+    of-values true b c ea eb ec = ap (λ (x : ℕ). x ∷ []) (sym (eqb-true n 0x80 ea))
+    of-values false true c ea eb ec = ap (λ (x : ℕ). x ∷ []) (sym (eqb-true n 0x40 eb))
+    of-values false false true ea eb ec = ap (λ (x : ℕ). x ∷ []) (sym (eqb-true n 0x00 ec))
+    of-values false false false ea eb ec = refl

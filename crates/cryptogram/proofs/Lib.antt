@@ -1,3 +1,2 @@
 pub mod DataLaws
 pub mod AnswerLaws
-pub mod Examples

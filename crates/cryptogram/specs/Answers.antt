@@ -1,7 +1,8 @@
 -- What the entry points answer, for every input: 0 and the cryptogram, or refusal 1 of 01 and zeros. Assumes nothing.
 use Prim.Native.Nat.{ℕ}
-use mathlib.Core.Bool.{_&&_, cond}
-use mathlib.Core.List.{List}
+use mathlib.Core.Path.{_≡_}
+use mathlib.Core.Bool.{Bool, _&&_, _||_, cond}
+use mathlib.Core.List.{List, [], _∷_}
 use lib.Dec.{eqb}
 use lib.ListN.{length, replicate}
 use Rattle.gost.specs.Gost.{subkeys}
@@ -37,7 +38,19 @@ unfoldable pub kindOf : ℕ → KindRead
 kindOf n =
     cond (eqb n (kindNumber Arqc)) (Known Arqc) (cond (eqb n (kindNumber Tc)) (Known Tc) (cond (eqb n (kindNumber Aac)) (Known Aac) Unknown))
 
--- 01, refusal 1: an unknown kind
+-- 01's number of an answer, and its value, the kind's number; refusal 1: an unknown kind
 unfoldable pub kindCode : KindRead → ℕ
 kindCode (Known kind) = 0
 kindCode Unknown = 1
+
+unfoldable pub kindValues : KindRead → List ℕ
+kindValues (Known kind) = kindNumber kind ∷ []
+kindValues Unknown = []
+
+abbrev pub isKind : ℕ → Bool
+isKind n = eqb n 0x80 || (eqb n 0x40 || eqb n 0x00)
+
+pub record ReadsKind (r : KindRead) (n : ℕ) : Type 0 where
+  pub is : r ≡ kindOf n
+  pub its-number : kindCode r ≡ cond (isKind n) 0 1
+  pub its-values : kindValues r ≡ cond (isKind n) (n ∷ []) []

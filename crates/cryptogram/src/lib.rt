@@ -5,7 +5,7 @@ ghost use lib.ListN.{length, replicate};
 ghost use Rattle.gost.specs.Gost.{subkeys};
 ghost use Rattle.cryptogram.specs.Data.{marked};
 ghost use Rattle.cryptogram.specs.Cryptogram.{twice as written_twice, doubleCode, string, cryptogramOf, arpcString, arpcOf};
-ghost use Rattle.cryptogram.specs.Answers.{no, cryptogramAnswer, arpcAnswer, kindNumber, kindOf};
+ghost use Rattle.cryptogram.specs.Answers.{no, cryptogramAnswer, arpcAnswer, kindNumber, ReadsKind};
 
 // The kind of a cryptogram that answers the first command.
 pub enum Kind {
@@ -39,7 +39,7 @@ pub fn kind_number(kind: Kind) -> u8
 
 // The kind of a number.
 pub fn kind_of(n: u8) -> KindRead
-    ensures { λ r. ⌜ r ≡ kindOf n ⌝ }
+    ensures { λ r. ⌜ ReadsKind r n ⌝ }
 {
     if n == 0x80 {
         return KindRead::Known(Kind::Arqc);

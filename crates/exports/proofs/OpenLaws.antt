@@ -9,7 +9,7 @@ use Rattle.shapes.specs.declared.Opened.the-variants.{Data, Refused}
 use Rattle.shapes.specs.Shape.{shape, tagOf}
 use Rattle.shapes.specs.Length.{lengthOf, placeOf}
 use Rattle.shapes.specs.Answers.{answer, shaped, number, values}
-use Rattle.shapes.proofs.AnswerLaws.{Told, told-data, shaped-good}
+use Rattle.shapes.proofs.AnswerLaws.{Told, tells-shaped, told-data, shaped-good}
 use Rattle.message.specs.Code.{given, codeFits}
 use Rattle.message.specs.Answers.{openNumber, opened}
 use Rattle.exports.specs.Lent.{Given, GivenOpened}
@@ -43,7 +43,7 @@ module _ (key header m : List ℕ) where
   opened-data o t p n e f = go (given key header) (shape m) (codeFits key header m) refl refl refl
     where
       go : (g s c : Bool) → given key header ≡ g → shape m ≡ s → codeFits key header m ≡ c → Told m t p n
-      go true true true a b d = told-data m (shaped m) t p n refl (sym (shaped-good m b) ∙ sym (found a b d) ∙ sym e ∙ f)
+      go true true true a b d = told-data m (shaped m) t p n (tells-shaped m refl) (sym (shaped-good m b) ∙ sym (found a b d) ∙ sym e ∙ f)
       go true true false a b d = absurd (other o t p n 8 f (e ∙ by-code a b d))
       go true false c a b d = absurd (other o t p n 4 f (e ∙ by-shape a b))
       go false s c a b d = absurd (other o t p n 1 f (e ∙ by-length a))

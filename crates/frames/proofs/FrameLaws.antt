@@ -17,7 +17,7 @@ use Rattle.transaction.specs.Transaction.{isOpen}
 use Rattle.card.specs.declared.Card.{Card}
 use Rattle.card.specs.declared.Reply.{Reply}
 use Rattle.card.specs.Record.{sound}
-use Rattle.card.specs.Calls.{plain, step, closing, Open, IssuerAnswer, Script, Close, Withdraw, Counters}
+use Rattle.card.specs.Calls.{judged, due, after, plain, step, Open, IssuerAnswer, Script, Close, Withdraw, Counters}
 use Rattle.card.specs.Personalise.{personalised}
 use Rattle.lines.specs.declared.Held.{Held}
 use Rattle.lines.specs.declared.Said.{Said}
@@ -52,18 +52,23 @@ module _ (h : Held) (s : List ℕ) (x : Said) where
 -- 04 and 06 with bytes after: what Close says of the phase
 phase-first : (r : Card) (a o s : Bool) → sound r ≡ a → isOpen (r .transaction .phase) ≡ o → r .transaction .spoilt ≡ s
     → overlong r ≡ plain r (cond (eqb (step r Close .code) 6) 6 1)
-unfolding overlong closing
+unfolding overlong judged due after
 phase-first r false o s e f g = rw e
 phase-first r true false s e f g = rw (e, f)
 phase-first r true true false e f g = rw (e, f, g)
 phase-first r true true true e f g = rw (e, f, g)
 
 module _ (r : Card) (p x : Reply) (q : p ≡ step r Close) where
+  by-close : overlong r ≡ plain r (cond (eqb (p .code) 6) 6 1)
+  by-close =
+      phase-first r (sound r) (isOpen (r .transaction .phase)) (r .transaction .spoilt) refl refl refl
+      ∙ ap (λ (a : Reply). plain r (cond (eqb (a .code) 6) 6 1)) (sym q)
+
   pub overlong-idle : p .code ≡ 6 → x ≡ plain r 6 → x ≡ overlong r
-  overlong-idle n e = e ∙ sym (phase-first r (sound r) (isOpen (r .transaction .phase)) (r .transaction .spoilt) refl refl refl ∙ rw (← q, eq-eqb _ _ n))
+  overlong-idle n e = e ∙ sym (by-close ∙ rw (eq-eqb _ _ n))
 
   pub overlong-open : (p .code ≡ 6 → ⊥) → x ≡ plain r 1 → x ≡ overlong r
-  overlong-open n e = e ∙ sym (phase-first r (sound r) (isOpen (r .transaction .phase)) (r .transaction .spoilt) refl refl refl ∙ rw (← q, ne-eqb _ _ n))
+  overlong-open n e = e ∙ sym (by-close ∙ rw (ne-eqb _ _ n))
 
 pub rest-all : (n : ℕ) (s : List ℕ) → take (length s - n) (drop n s) ≡ drop n s
 rest-all n s = take-all (length s - n) (drop n s) (simp length-drop (omega arith))

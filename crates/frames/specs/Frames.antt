@@ -1,7 +1,7 @@
 -- Frames, and the answer to a line (01, The clerk's trace and Numbered refusals). Assumes nothing.
 use Prim.Native.Nat.{ℕ}
-use mathlib.Core.Bool.{not, cond}
-use mathlib.Core.List.{List, [], _∷_}
+use mathlib.Core.Bool.{not, _&&_, cond}
+use mathlib.Core.List.{List}
 use lib.Dec.{eqb}
 use lib.ListN.{length, take, drop, getD}
 use Rattle.octets.specs.Numbers.{be}
@@ -9,7 +9,7 @@ use Rattle.transaction.specs.Transaction.{isOpen}
 use Rattle.card.specs.declared.Card.{Card}
 use Rattle.card.specs.declared.Reply.{Reply}
 use Rattle.card.specs.Record.{sound}
-use Rattle.card.specs.Calls.{strikes, first, plain, step, Open, IssuerAnswer, Script, Close, Withdraw, Counters}
+use Rattle.card.specs.Calls.{plain, step, Open, IssuerAnswer, Script, Close, Withdraw, Counters}
 use Rattle.card.specs.Personalise.{blank, personalised}
 use Rattle.lines.specs.declared.Held.{Held}
 use Rattle.lines.specs.Lines.{octetsOf, readable}
@@ -32,7 +32,7 @@ starts h p = cond (eqb (p .code) 0) (numbered (holding (p .card)) 0) (numbered h
 
 -- 04 and 06 with bytes after: "phase comes first", then 1
 unfoldable pub overlong : Card → Reply
-overlong r = plain r (first (strikes (not (sound r)) 1 ∷ strikes (not (isOpen (r .transaction .phase))) 6 ∷ []) 1)
+overlong r = plain r (cond (sound r && not (isOpen (r .transaction .phase))) 6 1)
 
 -- a frame with no bytes after its first
 abbrev pub bare : List ℕ → Reply → Reply → Reply

@@ -1,19 +1,19 @@
--- Demand 2: a script is accepted exactly when the eight checks pass. Assumes nothing.
+-- Demand 2: a script is accepted exactly when the eight checks pass, and refused with 8 exactly when those ahead of the code pass and the code does not.
+-- Assumes nothing.
 use Prim.Native.Nat.{ℕ}
 use mathlib.Core.Path.{_≡_, refl, sym, ap, _∙_}
 use mathlib.Core.Bool.{Bool, true, false, false≢true}
 use mathlib.Core.List.{List}
+use mathlib.Core.Logic.{_↔_}
 use lib.Dec.{eqb}
-use borrow.Author.Tests.{eqb-true, eqb-false, eq-eqb, ne-eqb}
+use borrow.Author.Tests.{eqb-false, eq-eqb, ne-eqb}
 use Rattle.card.specs.declared.Card.{Card}
 use Rattle.card.specs.declared.Reply.{Reply}
 use Rattle.card.specs.Record.{sound}
 use Rattle.card.specs.Calls.{Refusal, input, shapeWrong, notListed, phaseWrong, counterFull, codeDiffers, pinFormat, spoiltClosed, arpcDiffers, number}
-use Rattle.card.specs.Calls.{takes, inOpen, judged, step, Script}
-use Rattle.history.proofs.Own.{box}
-use Rattle.history.specs.Boxes.{OurAccepted}
-use Rattle.history.specs.Demand2.{Accepts, ordered, AcceptedExactly, Differs, DiffersExactly}
-use Rattle.history.proofs.Change.{Change, change, early, spoiled, differed, took, quiet}
+use Rattle.card.specs.Calls.{Call, Script, Verdict, refuse, accept, judgedScript, judged, due, after, plain, step}
+use Rattle.history.specs.Demand2.{Accepts, Differs, DiffersExactly}
+use Rattle.history.proofs.Change.{same-code, format-so, Change, change, step-by, early, spoiled, differed, took, quiet}
 
 -- a refusal is not 0
 pub not-zero : (q : Refusal) → eqb (number q) 0 ≡ false
@@ -27,10 +27,15 @@ not-zero pinFormat = refl
 not-zero spoiltClosed = refl
 not-zero arpcDiffers = refl
 
--- where the checks pass, the verdict is to take the order
-pub passed : (r : Card) (h m : List ℕ) (a : Accepts r h m) → judged r h m ≡ takes (ordered a)
-unfolding judged inOpen
-passed r h m a = rw (a .sound, a .phase, eq-eqb _ _ (a .header), a .shape, a .instruction, ne-eqb _ _ (a .counter), a .code, a .format)
+-- 01: "Any unsound record gets 1 ahead of all other checks and comes back unchanged, Script included."
+pub unsound-law : (r : Card) (c : Call) → sound r ≡ false → step r c ≡ plain r 1
+unfolding due after
+unsound-law r c e = rw e
+
+-- where the checks pass, the verdict is to accept
+pub passed : (r : Card) (h m : List ℕ) → Accepts r h m → judged r (Script h m) ≡ accept
+unfolding judged judgedScript
+passed r h m a = rw (a .phase, eq-eqb _ _ (a .header), a .shape, a .instruction, ne-eqb _ _ (a .counter), same-code r h m ∙ a .code, format-so a)
 
 passes : {r : Card} {h m : List ℕ} {x : Reply} → Change r (Script h m) x → x .code ≡ 0 → Accepts r h m
 passes (quiet q e) z = absurd (eqb-false _ _ (not-zero q) z)
@@ -46,24 +51,21 @@ differs-so (spoiled q o e n) z = absurd (eqb-false _ _ e z)
 differs-so (differed w n) z = w
 differs-so (took a) z = absurd (eqb-false 0 8 refl z)
 
-unsound-script : (r : Card) (h m : List ℕ) → sound r ≡ false → step r (Script h m) .code ≡ 1
-unfolding judged
-unsound-script r h m e = rw e
-
-pub accepted-exactly : OurAccepted
-accepted-exactly r h m = (there (sound r) refl, λ a. rw (passed r h m a))
+-- on every record, sound or not, reached or not
+pub accepted-exactly : (r : Card) (h m : List ℕ) → (step r (Script h m) .code ≡ 0) ↔ Accepts r h m
+accepted-exactly r h m = (there (sound r) refl, λ a. ap (λ (x : Reply). x .code) (step-by r (a .sound) (Script h m)) ∙ rw (passed r h m a))
   where
     there : (s : Bool) → sound r ≡ s → step r (Script h m) .code ≡ 0 → Accepts r h m
     there true e z = passes (change r e (Script h m)) z
-    there false e z = absurd (eqb-false 1 0 refl (sym (unsound-script r h m e) ∙ z))
+    there false e z = absurd (eqb-false 1 0 refl (sym (ap (λ (x : Reply). x .code) (unsound-law r (Script h m) e)) ∙ z))
 
-pub differs-exactly : DiffersExactly box
-unfolding judged inOpen
+pub differs-exactly : DiffersExactly
+unfolding judged judgedScript due
 differs-exactly r h m = (
   there (sound r) refl,
-  λ a. rw (a .sound, a .phase, eq-eqb _ _ (a .header), a .shape, a .instruction, ne-eqb _ _ (a .counter), a .code),
+  λ a. rw (a .sound, a .phase, eq-eqb _ _ (a .header), a .shape, a .instruction, ne-eqb _ _ (a .counter), same-code r h m ∙ a .code),
 )
   where
     there : (s : Bool) → sound r ≡ s → step r (Script h m) .code ≡ 8 → Differs r h m
     there true e z = differs-so (change r e (Script h m)) z
-    there false e z = absurd (eqb-false 1 8 refl (sym (unsound-script r h m e) ∙ z))
+    there false e z = absurd (eqb-false 1 8 refl (sym (ap (λ (x : Reply). x .code) (unsound-law r (Script h m) e)) ∙ z))

@@ -1,34 +1,57 @@
 -- What a call does to a sound record, case by case: the conditions of every call opened once. Assumes nothing.
 use Prim.Native.Nat.{ℕ}
-use mathlib.Core.Path.{_≡_, refl, sym, _∙_}
+use mathlib.Core.Path.{_≡_, refl, sym, ap, subst, _∙_}
 use mathlib.Core.List.{List, [], _∷_}
-use mathlib.Core.Bool.{Bool, true, false, not, _&&_, _||_, cond, false≢true}
+use mathlib.Core.Bool.{Bool, true, false, not, _&&_, _||_, true≢false, false≢true}
 use lib.ListN.{length}
 use lib.Dec.{eqb}
-use borrow.Author.Tests.{eqb-true, eqb-false}
+use borrow.Author.Tests.{eqb-true, eqb-false, eq-eqb, not-false}
 use Rattle.octets.specs.Same.{same}
 use Rattle.shapes.specs.declared.command.Command.{Command}
+use Rattle.shapes.specs.declared.command.Command.the-variants.{SetPin, SetMark, ClearMark}
 use Rattle.shapes.specs.declared.command.Listed.{Listed}
 use Rattle.shapes.specs.declared.command.Listed.the-variants.{One, Unlisted}
 use Rattle.shapes.specs.Length.{lengthOf}
-use Rattle.shapes.specs.Shape.{tagOf, shape}
+use Rattle.shapes.specs.Shape.{tagOf, dataOf, shape as hasShape}
 use Rattle.shapes.specs.Command.{commandOf}
+use Rattle.derive.specs.Derivation.{derived, cardLabel}
+use Rattle.pin.specs.declared.PinRead.{PinRead}
+use Rattle.pin.specs.Answers.{decipherPin}
 use Rattle.message.specs.Code.{codeFits}
 use Rattle.transaction.specs.declared.Phase.{Phase}
 use Rattle.transaction.specs.declared.Phase.the-variants.{Idle, Arqc, Aac}
-use Rattle.transaction.specs.Transaction.{isOpen, none, isArqc}
+use Rattle.transaction.specs.Transaction.{isOpen, none, spoilt, isArqc}
 use Rattle.card.specs.declared.Card.{Card}
 use Rattle.card.specs.declared.Reply.{Reply}
-use Rattle.card.specs.Record.{sound, withTransaction}
-use Rattle.card.specs.Keys.{smiKey}
-use Rattle.card.specs.Calls.{Refusal, input, shapeWrong, notListed, phaseWrong, counterFull, codeDiffers, pinFormat, arpcDiffers, number, strikes, first, plain}
-use Rattle.card.specs.Calls.{Judgment, refuse, accept, opening, openAs, arpcFor, answering, answerAs, withdrawing, counting, countersAs}
-use Rattle.card.specs.Calls.{Verdict, refuses, spoils, differs, takes, orderOf, formatFits, pinIn, forCommand, inOpen, judged, scriptAs}
-use Rattle.card.specs.Calls.{Closing, stays, drops, closes, closing, closeAs}
-use Rattle.card.specs.Calls.{Call, Open, IssuerAnswer, Script, Close, Withdraw, Counters, step}
-use Rattle.history.specs.Run.{frame}
-use Rattle.history.specs.Demand2.{Accepts, Differs, ordered}
-use Rattle.history.specs.Decides.{no-command}
+use Rattle.card.specs.Record.{sound as isSound, withTransaction, withCounters, oneFailed}
+use Rattle.card.specs.Keys.{smiKey, smcKey}
+use Rattle.card.specs.Calls.{Call, Open, IssuerAnswer, Script, Close, Withdraw, Counters, Refusal, input, shapeWrong, notListed, phaseWrong, counterFull, codeDiffers, pinFormat, spoiltClosed, arpcDiffers, number}
+use Rattle.card.specs.Calls.{Verdict, refuse, strikes, first, read, unlisted, unread, judgedScript, arpcFor, judged, only, gives, accepted, refused, dueBy, afterBy, due, after, reply, plain, step}
+use Rattle.history.specs.Demand2.{Accepts, Differs}
+
+no-command : (c : Command) → Unlisted ≡ One c → ⊥
+no-command c e = true≢false (ap unlisted e)
+
+-- the table's words for the checks of a message, and the demands'
+unread-so : (c : Command) (x : PinRead) → (c ≡ SetPin → x .code ≡ 0) → unread (One c) x ≡ false
+unread-so SetPin x f = rw (eq-eqb _ _ (f refl))
+unread-so SetMark x f = refl
+unread-so ClearMark x f = refl
+
+read-so : (c : Command) (x : PinRead) → unread (One c) x ≡ false → c ≡ SetPin → x .code ≡ 0
+read-so c x e z = eqb-true _ _ (not-false _ (subst (λ (k : Command). unread (One k) x ≡ false) z e))
+
+pub same-code : (r : Card) (h m : List ℕ) → codeFits (smiKey r) h m ≡ codeFits (derived (r .smi) cardLabel (r .transaction .cryptogram)) h m
+unfolding smiKey
+same-code r h m = refl
+
+pub same-block : (r : Card) (m : List ℕ) → decipherPin (smcKey r) (dataOf m) ≡ decipherPin (derived (r .smc) cardLabel (r .transaction .cryptogram)) (dataOf m)
+unfolding smcKey
+same-block r m = refl
+
+pub format-so : {r : Card} {h m : List ℕ} (a : Accepts r h m) → unread (One (a .command)) (read r h m .block) ≡ false
+unfolding smcKey
+format-so {r} {h} {m} a = unread-so (a .command) (read r h m .block) (a .format)
 
 -- the calls whose refusals change nothing, and end nothing
 abbrev pub mild : Call → Bool
@@ -43,14 +66,14 @@ pub data Change (r : Card) : Call → Reply → Type 0 where
   quiet : {c : Call} (q : Refusal) → mild c ≡ true → Change r c (plain r (number q))
   idle : isOpen (r .transaction .phase) ≡ false → Change r Close (plain r 6)
   early : {h m : List ℕ} → isOpen (r .transaction .phase) ≡ false → Change r (Script h m) (plain r 6)
-  counted : Change r Counters (countersAs r accept)
-  opened : {d : List ℕ} → isOpen (r .transaction .phase) ≡ false → Change r (Open d) (openAs r d accept)
-  answered : {x u : List ℕ} → isOpen (r .transaction .phase) ≡ true → Change r (IssuerAnswer x u) (answerAs r accept)
-  spoiled : {h m : List ℕ} (q : Refusal) → isOpen (r .transaction .phase) ≡ true → eqb (number q) 8 ≡ false → (Accepts r h m → ⊥) → Change r (Script h m) (scriptAs r (spoils q))
-  differed : {h m : List ℕ} → Differs r h m → (Accepts r h m → ⊥) → Change r (Script h m) (scriptAs r differs)
-  took : {h m : List ℕ} (a : Accepts r h m) → Change r (Script h m) (scriptAs r (takes (ordered a)))
-  dropped : isOpen (r .transaction .phase) ≡ true → r .transaction .spoilt ≡ true → Change r Close (closeAs r drops)
-  closed : isOpen (r .transaction .phase) ≡ true → r .transaction .spoilt ≡ false → Change r Close (closeAs r closes)
+  counted : Change r Counters (reply (accepted r Counters) (gives r Counters))
+  opened : {d : List ℕ} → isOpen (r .transaction .phase) ≡ false → Change r (Open d) (reply (accepted r (Open d)) (gives r (Open d)))
+  answered : {x u : List ℕ} → isOpen (r .transaction .phase) ≡ true → Change r (IssuerAnswer x u) (plain (accepted r (IssuerAnswer x u)) 0)
+  spoiled : {h m : List ℕ} (q : Refusal) → isOpen (r .transaction .phase) ≡ true → eqb (number q) 8 ≡ false → (Accepts r h m → ⊥) → Change r (Script h m) (plain (withTransaction r (spoilt (r .transaction))) (number q))
+  differed : {h m : List ℕ} → Differs r h m → (Accepts r h m → ⊥) → Change r (Script h m) (plain (withTransaction (withCounters r (r .atc) (oneFailed (r .counters))) (spoilt (r .transaction))) 8)
+  took : {h m : List ℕ} → Accepts r h m → Change r (Script h m) (plain (accepted r (Script h m)) 0)
+  dropped : isOpen (r .transaction .phase) ≡ true → r .transaction .spoilt ≡ true → Change r Close (plain (withTransaction r none) 10)
+  closed : isOpen (r .transaction .phase) ≡ true → r .transaction .spoilt ≡ false → Change r Close (plain (accepted r Close) 0)
   withdrew : Change r Withdraw (plain (withTransaction r none) 0)
 
 arqc-open : (p : Phase) → isArqc p ≡ true → isOpen p ≡ true
@@ -58,92 +81,129 @@ arqc-open Idle e = e
 arqc-open Arqc e = refl
 arqc-open Aac e = refl
 
-module _ (r : Card) (ok : sound r ≡ true) where
-  of-open : (d : List ℕ) → Change r (Open d) (step r (Open d))
-  unfolding opening
-  of-open d = rw ok (go (isOpen (r .transaction .phase)) (eqb (length d) 65) (eqb (r .atc) 65535 || eqb (r .counters .session) 65535) refl)
+-- the reply to a call of a sound record, by the verdict
+abbrev pub by : Card → Call → Verdict → Reply
+by r c v = reply (afterBy r c v) (dueBy r c v)
+
+module _ (r : Card) (ok : isSound r ≡ true) where
+  pub step-by : (c : Call) → step r c ≡ by r c (judged r c)
+  unfolding due after
+  step-by c = rw ok
+
+  of-open : (d : List ℕ) → Change r (Open d) (by r (Open d) (judged r (Open d)))
+  unfolding judged
+  of-open d = go (isOpen (r .transaction .phase)) (eqb (length d) 65) (eqb (r .atc) 65535 || eqb (r .counters .session) 65535) refl
     where
       go : (o l f : Bool) → isOpen (r .transaction .phase) ≡ o
-          → Change r (Open d) (openAs r d (first (strikes o (refuse phaseWrong) ∷ strikes (not l) (refuse input) ∷ strikes f (refuse counterFull) ∷ []) accept))
+          → Change r (Open d) (by r (Open d) (first (strikes o phaseWrong ∷ strikes (not l) input ∷ strikes f counterFull ∷ [])))
       go true l f e = quiet phaseWrong refl
       go false false f e = quiet input refl
       go false true true e = quiet counterFull refl
       go false true false e = opened e
 
-  of-answer : (x u : List ℕ) → Change r (IssuerAnswer x u) (step r (IssuerAnswer x u))
-  unfolding answering
-  of-answer x u = rw ok (go (isArqc (r .transaction .phase)) (eqb (length x) 8 && eqb (length u) 4) (same x (arpcFor r u)) refl)
+  of-answer : (x u : List ℕ) → Change r (IssuerAnswer x u) (by r (IssuerAnswer x u) (judged r (IssuerAnswer x u)))
+  unfolding judged
+  of-answer x u = go (isArqc (r .transaction .phase)) (eqb (length x) 8 && eqb (length u) 4) (same x (arpcFor r u)) refl
     where
       go : (o l f : Bool) → isArqc (r .transaction .phase) ≡ o
-          → Change r (IssuerAnswer x u) (answerAs r (first (strikes (not o) (refuse phaseWrong) ∷ strikes (not l) (refuse input) ∷ strikes (not f) (refuse arpcDiffers) ∷ []) accept))
+          → Change r (IssuerAnswer x u) (by r (IssuerAnswer x u) (first (strikes (not o) phaseWrong ∷ strikes (not l) input ∷ strikes (not f) arpcDiffers ∷ [])))
       go false l f e = quiet phaseWrong refl
       go true false f e = quiet input refl
       go true true false e = quiet arpcDiffers refl
       go true true true e = answered (arqc-open (r .transaction .phase) e)
 
-  of-close : Change r Close (step r Close)
-  unfolding closing
-  of-close = rw ok (go (isOpen (r .transaction .phase)) (r .transaction .spoilt) refl refl)
+  of-close : Change r Close (by r Close (judged r Close))
+  unfolding judged
+  of-close = go (isOpen (r .transaction .phase)) (r .transaction .spoilt) refl refl
     where
       go : (o s : Bool) → isOpen (r .transaction .phase) ≡ o → r .transaction .spoilt ≡ s
-          → Change r Close (closeAs r (first (strikes (not o) (stays phaseWrong) ∷ strikes s drops ∷ []) closes))
+          → Change r Close (by r Close (first (strikes (not o) phaseWrong ∷ strikes s spoiltClosed ∷ [])))
       go false s e p = idle e
       go true true e p = dropped e p
       go true false e p = closed e p
 
-  of-counters : Change r Counters (step r Counters)
-  unfolding counting
-  of-counters = rw ok (go (isOpen (r .transaction .phase)))
+  of-counters : Change r Counters (by r Counters (judged r Counters))
+  unfolding judged
+  of-counters = go (isOpen (r .transaction .phase))
     where
-      go : (o : Bool) → Change r Counters (countersAs r (first (strikes (not o) (refuse phaseWrong) ∷ []) accept))
+      go : (o : Bool) → Change r Counters (by r Counters (first (strikes (not o) phaseWrong ∷ [])))
       go false = quiet phaseWrong refl
       go true = counted
 
-  of-withdraw : Change r Withdraw (step r Withdraw)
-  unfolding withdrawing
-  of-withdraw = rw ok withdrew
-
-  module _ (h m : List ℕ) (o : isOpen (r .transaction .phase) ≡ true) where
-    -- a listed command in an open transaction
-    of-command : length h ≡ 4 → shape m ≡ true → (c : Command) → commandOf h (tagOf m) (lengthOf m) ≡ One c → Change r (Script h m) (scriptAs r (forCommand r h m (One c)))
-    of-command l x c e = go (eqb (r .counters .failures) 65535) (codeFits (smiKey r) h m) (formatFits c (pinIn r m)) refl refl refl
-      where
-        go : (f k p : Bool) → eqb (r .counters .failures) 65535 ≡ f → codeFits (smiKey r) h m ≡ k → formatFits c (pinIn r m) ≡ p
-            → Change r (Script h m) (scriptAs r (first (strikes f (spoils counterFull) ∷ strikes (not k) differs ∷ strikes (not p) (spoils pinFormat) ∷ []) (takes (orderOf c (pinIn r m)))))
-        go true k p ef ek ep = spoiled counterFull o refl (λ a. a .counter (eqb-true _ _ ef))
-        go false false p ef ek ep =
-            differed (record { sound = ok; phase = o; header = l; shape = x; command = c; instruction = e; counter = eqb-false _ _ ef; code = ek })
-            (λ a. false≢true (sym ek ∙ a .code))
-        go false true false ef ek ep = spoiled pinFormat o refl (λ a. let z : One c ≡ One (a .command) = sym e ∙ a .instruction in let y : c ≡ a .command = cc in false≢true (sym ep ∙ rw y (a .format)))
-        go false true true ef ek ep =
-            took (record { sound = ok; phase = o; header = l; shape = x; command = c; instruction = e; counter = eqb-false _ _ ef; code = ek; format = ep })
-
-    of-listed : length h ≡ 4 → shape m ≡ true → (q : Listed) → commandOf h (tagOf m) (lengthOf m) ≡ q → Change r (Script h m) (scriptAs r (forCommand r h m q))
-    of-listed l x Unlisted e = spoiled notListed o refl (λ a. no-command (a .command) (sym e ∙ a .instruction))
-    of-listed l x (One c) e = of-command l x c e
-
-    in-open : Change r (Script h m) (scriptAs r (inOpen r h m))
-    unfolding inOpen
-    in-open = go (eqb (length h) 4) (shape m) refl refl
-      where
-        go : (l x : Bool) → eqb (length h) 4 ≡ l → shape m ≡ x
-            → Change r (Script h m) (scriptAs r (first (strikes (not l) (spoils input) ∷ strikes (not x) (spoils shapeWrong) ∷ []) (forCommand r h m (commandOf h (tagOf m) (lengthOf m)))))
-        go false x el ex = spoiled input o refl (λ a. eqb-false _ _ el (a .header))
-        go true false el ex = spoiled shapeWrong o refl (λ a. false≢true (sym ex ∙ a .shape))
-        go true true el ex = of-listed (eqb-true _ _ el) ex (commandOf h (tagOf m) (lengthOf m)) refl
-
-  of-script : (h m : List ℕ) → Change r (Script h m) (step r (Script h m))
+  of-withdraw : Change r Withdraw (by r Withdraw (judged r Withdraw))
   unfolding judged
-  of-script h m = rw ok (go (isOpen (r .transaction .phase)) refl)
-    where
-      go : (o : Bool) → isOpen (r .transaction .phase) ≡ o → Change r (Script h m) (scriptAs r (first (strikes (not o) (refuses phaseWrong) ∷ []) (inOpen r h m)))
-      go false e = early e
-      go true e = in-open h m e
+  of-withdraw = withdrew
+
+  module _ (h m : List ℕ) where
+    idles : isOpen (r .transaction .phase) ≡ false → Change r (Script h m) (by r (Script h m) (refuse phaseWrong))
+    idles e = rw e (early e)
+
+    spoils : (q : Refusal) → isOpen (r .transaction .phase) ≡ true → eqb (number q) 8 ≡ false → (Accepts r h m → ⊥) → Change r (Script h m) (by r (Script h m) (refuse q))
+    spoils q o n f = rw (o, n) (spoiled q o n f)
+
+    differs : Differs r h m → (Accepts r h m → ⊥) → Change r (Script h m) (by r (Script h m) (refuse codeDiffers))
+    differs w f = rw (w .phase) (differed w f)
+
+    of-script : Change r (Script h m) (by r (Script h m) (judged r (Script h m)))
+    unfolding judged judgedScript
+    of-script =
+        go (isOpen (r .transaction .phase)) (eqb (length h) 4) (hasShape m) (commandOf h (tagOf m) (lengthOf m)) (eqb (r .counters .failures) 65535) (codeFits (smiKey r) h m)
+        (unread (commandOf h (tagOf m) (lengthOf m)) (read r h m .block)) refl refl refl refl refl refl refl
+      where
+        go : (o l x : Bool) (q : Listed) (f k p : Bool) → isOpen (r .transaction .phase) ≡ o → eqb (length h) 4 ≡ l → hasShape m ≡ x → commandOf h (tagOf m) (lengthOf m) ≡ q
+            → eqb (r .counters .failures) 65535 ≡ f → codeFits (smiKey r) h m ≡ k → unread (commandOf h (tagOf m) (lengthOf m)) (read r h m .block) ≡ p
+            → Change r (Script h m)
+            (by r (Script h m)
+            (first
+            (strikes (not o) phaseWrong
+            ∷ strikes (not l) input
+            ∷ strikes (not x) shapeWrong
+            ∷ strikes (unlisted q) notListed
+            ∷ strikes f counterFull
+            ∷ strikes (not k) codeDiffers
+            ∷ strikes p pinFormat
+            ∷ [])))
+        go false l x q f k p eo el ex eq ef ek ep = idles eo
+        go true false x q f k p eo el ex eq ef ek ep = spoils input eo refl (λ a. eqb-false _ _ el (a .header))
+        go true true false q f k p eo el ex eq ef ek ep = spoils shapeWrong eo refl (λ a. false≢true (sym ex ∙ a .shape))
+        go true true true Unlisted f k p eo el ex eq ef ek ep = spoils notListed eo refl (λ a. no-command (a .command) (sym eq ∙ a .instruction))
+        go true true true (One c) true k p eo el ex eq ef ek ep = spoils counterFull eo refl (λ a. a .counter (eqb-true _ _ ef))
+        go true true true (One c) false false p eo el ex eq ef ek ep =
+            differs
+            (record {
+              sound = ok;
+              phase = eo;
+              header = eqb-true _ _ el;
+              shape = ex;
+              command = c;
+              instruction = eq;
+              counter = eqb-false _ _ ef;
+              code = sym (same-code r h m) ∙ ek;
+            })
+            (λ a. false≢true (sym ek ∙ same-code r h m ∙ a .code))
+        go true true true (One c) false true true eo el ex eq ef ek ep =
+            spoils pinFormat eo refl (λ a. true≢false (sym ep ∙ rw (a .instruction) (format-so a)))
+        go true true true (One c) false true false eo el ex eq ef ek ep =
+            took
+            (record {
+              sound = ok;
+              phase = eo;
+              header = eqb-true _ _ el;
+              shape = ex;
+              command = c;
+              instruction = eq;
+              counter = eqb-false _ _ ef;
+              code = sym (same-code r h m) ∙ ek;
+              format = λ z. sym (ap (λ (x : PinRead). x .code) (same-block r m)) ∙ read-so c (read r h m .block) (sym (ap (λ (l : Listed). unread l (read r h m .block)) eq) ∙ ep) z;
+            })
+
+  of-call : (c : Call) → Change r c (by r c (judged r c))
+  of-call (Open d) = of-open d
+  of-call (IssuerAnswer x u) = of-answer x u
+  of-call (Script h m) = of-script h m
+  of-call Close = of-close
+  of-call Withdraw = of-withdraw
+  of-call Counters = of-counters
 
   pub change : (c : Call) → Change r c (step r c)
-  change (Open d) = of-open d
-  change (IssuerAnswer x u) = of-answer x u
-  change (Script h m) = of-script h m
-  change Close = of-close
-  change Withdraw = of-withdraw
-  change Counters = of-counters
+  change c = subst (Change r c) (sym (step-by c)) (of-call c)

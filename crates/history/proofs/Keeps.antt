@@ -1,19 +1,19 @@
--- A fresh record is sound, and a sound record stays sound; an unsound one is refused. Assumes nothing.
+-- A fresh record is sound, and a sound record stays sound. Assumes nothing.
 use Prim.Native.Nat.{ℕ}
-use mathlib.Core.Path.{_≡_, refl, sym, ap, subst, _∙_}
+use mathlib.Core.Path.{_≡_, refl, sym, ap, _∙_}
 use mathlib.Core.List.{List, [], _∷_}
-use mathlib.Core.Bool.{Bool, true, false, not, _&&_, cond, and-eq-true-iff, true≢false, false≢true}
+use mathlib.Core.Bool.{Bool, true, false, not, _&&_, _||_, cond, and-eq-true-iff, true≢false, false≢true}
 use lib.Dec.{leb, eqb}
 use lib.ListN.{replicate}
 use native.Mathlib.Omega.{arith}
-use borrow.Author.Tests.{not-true, eqb-true, eqb-false, ne-eqb, leb-true}
+use borrow.Author.Tests.{not-true, not-false, eqb-true, eqb-false, ne-eqb}
 use Rattle.octets.specs.Same.{same}
 use Rattle.octets.proofs.SameLaws.{same-true}
 use Rattle.shapes.specs.declared.command.Command.{Command}
 use Rattle.shapes.specs.declared.command.Command.the-variants.{SetPin, SetMark, ClearMark}
-use Rattle.pin.specs.declared.PinRead.{PinRead}
+use Rattle.shapes.specs.declared.command.Listed.the-variants.{One}
 use Rattle.pin.specs.PinBlock.{pinFits}
-use Rattle.pin.specs.Answers.{readBlock, decipherPin}
+use Rattle.pin.specs.Answers.{readBlock}
 use Rattle.pin.proofs.BlockLaws.{fits}
 use Rattle.pin.proofs.FoundLaws.{read-fits, deciphered-fits}
 use Rattle.transaction.specs.declared.Phase.{Phase}
@@ -25,17 +25,21 @@ use Rattle.transaction.specs.Transaction.{isOpen, isUnmarked, none, pendingFits
 use Rattle.card.specs.declared.Card.{Card}
 use Rattle.card.specs.declared.Reply.{Reply}
 use Rattle.card.specs.Record.{sound, kept, withTransaction, withKept}
-use Rattle.card.specs.Keys.{smcKey}
-use Rattle.card.specs.Calls.{Order, newPin, newMark, orderOf, formatFits, pinIn, pend, laid, opening, answering, judged, closing, withdrawing, counting, plain}
-use Rattle.card.specs.Calls.{Call, Open, IssuerAnswer, Script, Close, Withdraw, Counters}
-use Rattle.card.specs.Personalise.{blank, fresh, personalised}
+use Rattle.card.specs.Calls.{Call, Withdraw, input, pinFormat, read, Order, newPin, newMark, orders, pend, pendAll, laid, judged, unread, strikes, first, due, after, plain}
+use Rattle.card.specs.Personalise.{fresh, loadedBy, personalised}
 use Rattle.history.proofs.Own.{box, run}
-use Rattle.history.specs.Demand2.{Accepts, ordered}
-use Rattle.history.specs.Demand3.{Fresh, UnsoundLaw, SoundLaw, FreshLaw, WithdrawnIdle}
-use Rattle.history.proofs.Change.{Change, change, quiet, idle, early, counted, opened, answered, spoiled, differed, took, dropped, closed, withdrew}
+use Rattle.history.specs.Run.{Loading, personalisedWith}
+use Rattle.history.specs.Ledger.{loaded}
+use Rattle.history.specs.Demand2.{Accepts}
+use Rattle.history.specs.Demand3.{Fresh}
+use Rattle.history.proofs.Change.{format-so, step-by, Change, change, quiet, idle, early, counted, opened, answered, spoiled, differed, took, dropped, closed, withdrew}
 
 and : {a b : Bool} → a ≡ true → b ≡ true → (a && b) ≡ true
 and {a} {b} e f = rw (e, f)
+
+pub neither : (a b : Bool) → (a || b) ≡ false → (a ≡ false) × (b ≡ false)
+neither true b e = absurd (true≢false e)
+neither false b e = (refl, e)
 
 pub pin-count : (n : ℕ) (p : List ℕ) → pinFits 0 n p ≡ true → eqb n 0 ≡ false
 pin-count n p e = let f = fits 0 n p e in let l = f .least in ne-eqb n 0 (λ (z : n ≡ 0). omega arith)
@@ -71,23 +75,37 @@ unfoldable pub Fit : Order → Type 0
 Fit (newPin p n) = pinFits 0 n p ≡ true
 Fit (newMark b) = Unit {0}
 
-pub order-fit : {r : Card} {h m : List ℕ} (a : Accepts r h m) → Fit (ordered a)
-unfolding pinIn Fit
-order-fit {r} {h} {m} a = go (a .command) (a .format)
+unfoldable pub Fits : List Order → Type 0
+Fits [] = Unit {0}
+Fits (o ∷ os) = Fit o × Fits os
+
+pub orders-fit : {r : Card} {h m : List ℕ} → Accepts r h m → Fits (orders (read r h m .command) (read r h m .block))
+unfolding Fit Fits
+orders-fit {r} {h} {m} a = rw (a .instruction) (go (a .command) (format-so a))
   where
-    go : (c : Command) → formatFits c (pinIn r m) ≡ true → Fit (orderOf c (pinIn r m))
-    go SetPin e = deciphered-fits _ _ (eqb-true _ _ e)
-    go SetMark e = tt
-    go ClearMark e = tt
+    go : (c : Command) → unread (One c) (read r h m .block) ≡ false → Fits (orders (One c) (read r h m .block))
+    go SetPin e = (deciphered-fits _ _ (eqb-true _ _ (not-false _ e)), tt)
+    go SetMark e = (tt, tt)
+    go ClearMark e = (tt, tt)
 
 pin-pending : (n : ℕ) (p : List ℕ) → pinFits 0 n p ≡ true → pendingFits n p ≡ true
 unfolding pendingFits
 pin-pending n p e = rw (pin-count n p e) e
 
-pend-sound : (r : Card) (o : Order) → Parts r → isOpen (r .transaction .phase) ≡ true → Fit o → Parts (withTransaction r (pend (r .transaction) o))
+pend-sound : (r : Card) (o : Order) → Parts r → isOpen (r .transaction .phase) ≡ true → Fit o → Parts (withTransaction r (pend o (r .transaction)))
 unfolding Fit
 pend-sound r (newPin p n) s a f = record { pinned = s .pinned; pended = pin-pending n p f; rested = open-rests _ a }
 pend-sound r (newMark b) s a f = record { pinned = s .pinned; pended = s .pended; rested = open-rests _ a }
+
+pend-open : (o : Order) (t : Transaction) → isOpen (pend o t .phase) ≡ isOpen (t .phase)
+pend-open (newPin p n) t = refl
+pend-open (newMark b) t = refl
+
+pend-all-sound : (os : List Order) (r : Card) → Parts r → isOpen (r .transaction .phase) ≡ true → Fits os → Parts (withTransaction r (pendAll os (r .transaction)))
+unfolding Fits
+pend-all-sound [] r s a f = s
+pend-all-sound (o ∷ os) r s a f =
+    pend-all-sound os (withTransaction r (pend o (r .transaction))) (pend-sound r o s a (f .0)) (pend-open o (r .transaction) ∙ a) (f .1)
 
 laid-fits : (r : Card) → Parts r → pinFits 0 (laid (r .transaction) (kept r) .count) (laid (r .transaction) (kept r) .pin) ≡ true
 unfolding laid pendingFits
@@ -112,45 +130,41 @@ keeps {r} s (opened e) = whole _ (record { pinned = parts r s .pinned; pended = 
 keeps {r} s (answered e) = whole _ (record { pinned = parts r s .pinned; pended = parts r s .pended; rested = parts r s .rested })
 keeps {r} s (spoiled q e n f) = whole _ (record { pinned = parts r s .pinned; pended = parts r s .pended; rested = open-rests _ e })
 keeps {r} s (differed w f) = whole _ (record { pinned = parts r s .pinned; pended = parts r s .pended; rested = open-rests _ (w .phase) })
-keeps {r} s (took a) = whole _ (pend-sound r (ordered a) (parts r s) (a .phase) (order-fit a))
+keeps {r} s (took a) = whole _ (pend-all-sound _ r (parts r s) (a .phase) (orders-fit a))
 keeps {r} s (dropped e p) = resting r (parts r s .pinned)
 keeps {r} s (closed e p) = resting (withKept r (laid (r .transaction) (kept r))) (laid-fits r (parts r s))
 keeps {r} s withdrew = resting r (parts r s .pinned)
 
-pub sound-law : SoundLaw box
+-- a record that starts sound stays sound; a fresh one is
+pub sound-law : (r : Card) (cs : List Call) → sound r ≡ true → sound (run r cs) ≡ true
 sound-law r [] s = s
 sound-law r (c ∷ cs) s = sound-law (box r c .card) cs (keeps s (change r s c))
 
+-- the record that an accepted personalisation makes
+abbrev pub freshOf : Loading → Card
+freshOf l = fresh (l .ac) (l .smi) (l .smc) (l .atc) (l .counters) (l .mark) (l .block)
+
 -- a fresh record: what personalisation accepts
-card-of : {r s : Card} → plain r 0 ≡ plain s 0 → r ≡ s
-card-of e = ap (λ (a : Reply). a .card) e
+pub record Taken (l : Loading) : Type 0 where
+  pub mark-so : leb (l .mark) 1 ≡ true
+  pub block-so : eqb (readBlock (l .block) .code) 0 ≡ true
 
-pub record Made (r : Card) : Type 0 where
-  pub pinned : pinFits 0 (r .count) (r .pin) ≡ true
-  pub rested : r .transaction ≡ none
-
-pub fresh-made : (r : Card) → Fresh r → Made r
+pub taken : (l : Loading) → Fresh l → Taken l
 unfolding personalised
-fresh-made r f = go (leb (f .mark) 1) (eqb (readBlock (f .block) .code) 0) refl refl
+taken l f = go (leb (l .mark) 1) (eqb (readBlock (l .block) .code) 0) refl refl f
   where
-    go : (b k : Bool) → leb (f .mark) 1 ≡ b → eqb (readBlock (f .block) .code) 0 ≡ k → Made r
-    go true true eb ek =
-        let e : fresh (f .ac) (f .smi) (f .smc) (f .atc) (f .counters) (f .mark) (f .block) ≡ r = card-of (rw (eb, ek) at (f .accepted)) in
-        subst Made e (record { pinned = read-fits (f .block) (eqb-true _ _ ek); rested = refl })
-    go true false eb ek = absurd (eqb-false 9 0 refl (ap (λ (a : Reply). a .code) (rw (eb, ek) at (f .accepted))))
-    go false k eb ek = absurd (eqb-false 1 0 refl (ap (λ (a : Reply). a .code) (rw eb at (f .accepted))))
+    go : (b k : Bool) → leb (l .mark) 1 ≡ b → eqb (readBlock (l .block) .code) 0 ≡ k
+        → loadedBy (freshOf l) (first (strikes (not b) input ∷ strikes (not k) pinFormat ∷ [])) .code ≡ 0 → Taken l
+    go true true eb ek z = record { mark-so = eb; block-so = ek }
+    go true false eb ek z = absurd (eqb-false 9 0 refl z)
+    go false k eb ek z = absurd (eqb-false 1 0 refl z)
 
-pub fresh-law : FreshLaw
-fresh-law r f = let m = fresh-made r f in ap (λ (t : Transaction). sound (withTransaction r t)) (m .rested) ∙ resting r (m .pinned)
+pub started : (l : Loading) → Fresh l → personalisedWith l ≡ plain (freshOf l) 0
+unfolding personalised
+started l f = rw (taken l f .mark-so, taken l f .block-so)
 
-pub unsound-law : UnsoundLaw box
-unfolding opening answering judged closing withdrawing counting
-unsound-law r (Open d) e = rw e
-unsound-law r (IssuerAnswer x u) e = rw e
-unsound-law r (Script h m) e = rw e
-unsound-law r Close e = rw e
-unsound-law r Withdraw e = rw e
-unsound-law r Counters e = rw e
+pub fresh-law : (l : Loading) → Fresh l → sound (loaded l) ≡ true
+fresh-law l f = ap (λ (a : Reply). sound (a .card)) (started l f) ∙ resting (freshOf l) (read-fits (l .block) (eqb-true _ _ (taken l f .block-so)))
 
 -- with none open, a sound record has no transaction, and a withdrawal changes nothing
 none-by : (p : Phase) (g q : List ℕ) (n : ℕ) (m : PendingMark) (t : Bool) → p ≡ Idle → g ≡ replicate 8 0 → q ≡ replicate 12 0 → n ≡ 0 → m ≡ Nothing → t ≡ false
@@ -167,7 +181,7 @@ unmarked Nothing e = refl
 unmarked Set e = absurd (false≢true e)
 unmarked Clear e = absurd (false≢true e)
 
-idle-none : (t : Transaction) → isOpen (t .phase) ≡ false → restFits t ≡ true → pendingFits (t .count) (t .pin) ≡ true → t ≡ none
+pub idle-none : (t : Transaction) → isOpen (t .phase) ≡ false → restFits t ≡ true → pendingFits (t .count) (t .pin) ≡ true → t ≡ none
 unfolding restFits pendingFits
 idle-none t o e f =
     let a = and-eq-true-iff (same (t .cryptogram) (replicate 8 0)) _ .0 (rw o at e) in
@@ -175,8 +189,9 @@ idle-none t o e f =
     let c = and-eq-true-iff (isUnmarked (t .mark)) _ .0 (b .1) in
     none-by _ _ _ _ _ _ (idle-phase _ o) (same-true _ _ (a .0)) (same-true _ _ (rw (b .0) at f)) (eqb-true _ _ (b .0)) (unmarked _ (c .0)) (not-true (t .spoilt) (c .1))
 
-pub withdrawn-idle : WithdrawnIdle box
-unfolding withdrawing
+-- 01, Withdraw: "With none open it is accepted and changes nothing."
+pub withdrawn-idle : (r : Card) → sound r ≡ true → isOpen (r .transaction .phase) ≡ false → box r Withdraw ≡ plain r 0
+unfolding judged
 withdrawn-idle r s o =
     let p = parts r s in
-    rw s (ap (λ (t : Transaction). plain (withTransaction r t) 0) (sym (idle-none (r .transaction) o (p .rested) (p .pended))))
+    step-by r s Withdraw ∙ ap (λ (t : Transaction). plain (withTransaction r t) 0) (sym (idle-none (r .transaction) o (p .rested) (p .pended)))

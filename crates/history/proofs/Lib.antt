@@ -2,9 +2,12 @@ pub mod Own
 pub mod Change
 pub mod Accepted
 pub mod Keeps
-pub mod Ledger
-pub mod Counts
+pub mod Shown
 pub mod Strike
-pub mod Papers
 pub mod PTable
+pub mod Shadow
+pub mod Meets
+pub mod Exactly
+pub mod Onto
+pub mod Boxes
 pub mod Useless

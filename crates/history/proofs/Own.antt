@@ -1,22 +1,21 @@
 -- The demands' words for our box. Assumes nothing.
 use mathlib.Core.List.{List}
 use Rattle.card.specs.declared.Card.{Card}
-use Rattle.card.specs.Calls.{Call, Order}
+use Rattle.card.specs.declared.Reply.{Reply}
+use Rattle.card.specs.Calls.{Call, step}
 use Rattle.history.specs.Run as runs
-use Rattle.history.specs.Boxes.{ours}
-use Rattle.history.specs.Demand3 as demands
 
 abbrev pub box : runs.Box
-box = ours
+box r c = step r c
+
+abbrev pub any : runs.AnyBox
+any = runs.ours
 
 abbrev pub run : Card → List Call → Card
-run = runs.run ours
+run = runs.run any
 
 abbrev pub history : Card → List Call → runs.History
-history = runs.history ours
+history = runs.history any
 
-abbrev pub ledger : demands.Page → Card → List Call → demands.Page
-ledger = demands.ledger ours
-
-abbrev pub allGood : demands.Page → Card → List Call → List Order
-allGood = demands.allGood ours
+abbrev pub entry : Call → Reply → runs.Entry
+entry c a = runs.did c (runs.said a)

@@ -1,21 +1,87 @@
--- The examples marked P, computed. Assumes nothing.
+-- The examples marked P, and the cases of the table, computed. Assumes nothing.
 use mathlib.Core.Path.{refl}
-use Rattle.octets.specs.Numbers.{leOctets, beOctets}
+use Rattle.octets.specs.Numbers.{leOctets, beOctets, be, le}
 use Rattle.octets.specs.Same.{same}
 use Rattle.octets.specs.Digits.{digits, pairs}
 use Rattle.shapes.specs.Length.{largest, largestShort, lengthField, fieldSays, lengthOf, placeOf}
 use Rattle.shapes.specs.Shape.{tagFits, codeHead, body, bodySize, tagOf, dataOf, bodyOf, codeIn, shape}
-use Rattle.shapes.specs.Answers.{number, answer, shaped}
+use Rattle.shapes.specs.Command.{headerOf, tagFor, lengthFor, isFor, listed, firstOf, commandOf}
+use Rattle.shapes.specs.Answers.{answer, shaped}
 use Rattle.cipher.specs.Answers.{blockFits}
 use Rattle.keys.specs.CardNumber.{X, sixteen, Y}
 use Rattle.pin.specs.PinBlock.{pinFits, halves, fields, pinBlock, wellFormed, pinOf}
-use Rattle.pin.specs.Answers.{written, noBlock, found, noPin, writePin, readBlock, readPin}
+use Rattle.pin.specs.CounterBlock.{counterBlock, countersOf}
+use Rattle.pin.specs.Answers.{found, noPin, writePin, readBlock, readPin}
+use Rattle.keys.specs.Seeds.{sessionSeed}
+use Rattle.cryptogram.specs.Answers.{kindNumber}
 use Rattle.cryptogram.specs.Data.{width, widths, fields as dataFields, row, place, counterPlace, issuerPlace, kindPlace, kindBits, marked, cardData}
 use Rattle.transaction.specs.Transaction.{pendingFits, restFits}
 use Rattle.card.specs.Record.{sound}
-use Rattle.card.specs.Calls.{opening, closing, withdrawing}
+use Rattle.card.specs.Keys.{sessionKeyOf, counterKeyOf}
+use Rattle.card.specs.Calls.{judgedScript, judged, arpcFor, cryptogramFor, countersFor, due, after}
+use Rattle.card.specs.Personalise.{personalised}
 use Rattle.history.specs.Examples.{Table}
+use Rattle.history.specs.Cases.{Cases}
 
 pub p-table : Table
-unfolding leOctets beOctets same digits pairs X sixteen Y pinFits halves fields pinBlock wellFormed pinOf blockFits written noBlock found noPin writePin readBlock readPin width widths dataFields row place counterPlace issuerPlace kindPlace kindBits marked cardData largest largestShort lengthField fieldSays lengthOf placeOf tagFits codeHead body bodySize tagOf dataOf bodyOf codeIn shape number answer shaped pendingFits restFits sound opening closing withdrawing
-p-table = refl
+unfolding leOctets beOctets same digits pairs X sixteen Y pinFits halves fields pinBlock wellFormed pinOf blockFits writePin readBlock readPin width widths dataFields row place counterPlace issuerPlace kindPlace kindBits marked cardData largest largestShort lengthField fieldSays lengthOf placeOf tagFits codeHead body bodySize tagOf dataOf bodyOf codeIn shape answer shaped pendingFits restFits sound judged due after
+p-table =
+    record {
+      P1 = refl;
+      P2 = refl;
+      P3 = refl;
+      P4 = refl;
+      P5 = refl;
+      P6 = refl;
+      P7 = refl;
+      P8 = λ a b c d. refl;
+      P9 = λ a b c d. refl;
+      P10-80 = λ s. refl;
+      P10-7f = λ a b c d. refl;
+      P10-81-80 = λ a b c d. refl;
+      P10-81-7f = λ s. refl;
+      P11-arqc = refl;
+      P11-tc = refl;
+      P11-aac = refl;
+      P12-atc = refl;
+      P12-session = refl;
+      P13 = refl;
+      P14 = refl;
+    }
+
+pub cases : Cases
+unfolding same leOctets beOctets be le lengthField fieldSays largest largestShort lengthOf placeOf tagFits codeHead body bodySize tagOf dataOf bodyOf codeIn shape headerOf tagFor lengthFor isFor listed firstOf commandOf digits halves wellFormed pinOf pinFits readBlock found noPin countersOf counterBlock kindNumber sessionSeed sessionKeyOf counterKeyOf pendingFits restFits sound judgedScript judged arpcFor cryptogramFor countersFor due after personalised
+cases =
+    record {
+      open-6-1 = refl;
+      open-1-7 = refl;
+      answer-6-1 = refl;
+      answer-1-11 = refl;
+      script-6-1 = refl;
+      script-1-4 = refl;
+      script-4-5 = refl;
+      script-5-7 = refl;
+      script-7-8 = refl;
+      close-6 = refl;
+      counters-6 = refl;
+      answer-aac = refl;
+      nine = refl;
+      eleven = refl;
+      withdrawn = refl;
+      none-loaded = λ c. refl;
+      three-digits = refl;
+      thirteen-digits = refl;
+      digit-of-ten = refl;
+      unused-place = refl;
+      spoilt-idle = refl;
+      loads = refl;
+      loads-1-9 = refl;
+      loads-9 = refl;
+      sets-pin = λ x. refl;
+      sets-mark = λ x. refl;
+      clears-mark = λ x. refl;
+      arqc = λ d. refl;
+      aac = λ d. refl;
+      arpc = λ u. refl;
+      counters = refl;
+    }

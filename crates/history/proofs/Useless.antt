@@ -1,67 +1,61 @@
--- The five useless boxes: of each a statement of the demands is false. Assumes nothing.
-use Prim.Native.Nat.{ℕ, _+_, _≤_, zero-le}
+-- The useless boxes: of each a demand is false. Assumes nothing.
+use Prim.Native.Nat.{ℕ, _+_, zero-le}
 use native.Mathlib.Omega.{arith}
 use mathlib.Core.Path.{_≡_, refl, sym, ap, ap₂, subst, _∙_}
-use mathlib.Core.List.{List, [], _∷_, _++_, reverse}
+use mathlib.Core.List.{List, [], _∷_}
 use mathlib.Core.Bool.{Bool, true, false, not, _&&_, cond, true≢false, false≢true}
-use lib.Dec.{eqb}
-use lib.ListN.{length, getD, replicate}
+use lib.Dec.{eqb, lit<}
+use lib.ListN.{length, getD, replicate, length-append}
 use borrow.Author.Tests.{eqb-false, eq-eqb}
-use Rattle.octets.specs.Numbers.{be, le, leOctets, beOctets, Octets}
+use Rattle.octets.specs.Numbers.{be, le, leOctets}
 use Rattle.octets.specs.Same.{same}
 use Rattle.octets.specs.Digits.{digits}
 use Rattle.octets.specs.Lengths.{keyFits}
-use Rattle.octets.proofs.Parts.{octets-test}
 use Rattle.shapes.specs.declared.command.Command.{Command}
 use Rattle.shapes.specs.declared.command.Command.the-variants.{SetPin, SetMark, ClearMark}
+use Rattle.shapes.specs.declared.command.Listed.{Listed}
 use Rattle.shapes.specs.declared.command.Listed.the-variants.{One}
-use Rattle.shapes.specs.Length.{lengthOf, placeOf, largest}
-use Rattle.shapes.specs.Shape.{tagOf, tagFits}
+use Rattle.shapes.specs.Length.{placeOf}
+use Rattle.shapes.specs.Shape.{tagFits}
 use Rattle.shapes.specs.Command.{headerOf, tagFor, lengthFor, isFor, listed, firstOf, commandOf}
-use Rattle.gost.specs.Gost.{encipher, decipher}
-use Rattle.gost.proofs.Inverse.{decipher-encipher}
-use Rattle.hash.specs.Hash.{hash256}
-use Rattle.derive.specs.Derivation.{derived, cardLabel}
-use Rattle.derive.specs.Answers.{yes as key-made, noKey, seedFits, derivation}
-use Rattle.keys.specs.Seeds.{sessionSeed}
-use Rattle.keys.specs.Answers.{scriptKey}
-use Rattle.pin.specs.declared.PinRead.{PinRead}
-use Rattle.pin.specs.PinBlock.{pinFits, halves, wellFormed, pinOf}
-use Rattle.pin.specs.CounterBlock.{counterBlock, countersOf}
+use Rattle.gost.specs.Gost.{subkeys}
+use Rattle.cipher.specs.Code.{codeOf}
+use Rattle.cipher.proofs.CodeLaws.{length-codeOf}
+use Rattle.hash.proofs.Laws.{length-hash256}
+use Rattle.derive.specs.Hmac.{hmac}
+use Rattle.derive.specs.Derivation.{derived}
+use Rattle.pin.specs.PinBlock.{pinFits, halves, wellFormed}
+use Rattle.pin.specs.CounterBlock.{countersOf}
 use Rattle.pin.specs.Answers.{found, noPin, readBlock}
 use Rattle.message.specs.Code.{message, given}
 use Rattle.message.proofs.Return.{open-made, Taken, taken}
+use Rattle.cryptogram.specs.declared.Kind.the-variants.{Arqc}
+use Rattle.cryptogram.specs.Cryptogram.{twice, doubleCode, arpcString, arpcOf}
 use Rattle.transaction.specs.declared.Transaction.{Transaction}
-use Rattle.transaction.specs.declared.PendingMark.the-variants.{Set, Clear}
-use Rattle.transaction.specs.Transaction.{isOpen, isUnmarked, none, pendingFits, restFits, begun, markFor}
+use Rattle.transaction.specs.Transaction.{isOpen, isArqc, none}
 use Rattle.card.specs.declared.Card.{Card}
 use Rattle.card.specs.declared.Reply.{Reply}
-use Rattle.card.specs.Record.{sound, Kept, kept, withTransaction, withCounters, withSession}
-use Rattle.card.specs.Keys.{smiKey}
-use Rattle.card.specs.Calls.{Order, plain, refuse, accept, Judgment, Verdict, takes, orderOf, newMark, formatFits, pinIn, opening, openAs, grown, judged, scriptAs, pend, laid, Closing, closes, closing, closeAs, counting, countersAs}
-use Rattle.card.specs.Calls.{Call, Open, Script, Close, Counters, step}
-use Rattle.card.specs.Personalise.{fresh, personalised}
-use Rattle.history.specs.Run.{Box}
-use Rattle.history.specs.Boxes.{ours, refusesEverything, constantCryptogram, doesNothing, hasPending, firstOnly, madeUpCounters}
-use Rattle.history.specs.Demand2.{Accepts, ordered, Opens, AcceptedExactly, CountersLaw}
-use Rattle.history.specs.Decides.{decides}
-use Rattle.history.specs.Demand3.{Fresh, blankPage, newPage, scripted, madeGood, allObeyed, KeptLaw, AtcLaw}
+use Rattle.card.specs.Record.{sound, kept, withTransaction}
+use Rattle.card.specs.Keys.{sessionKeyOf, smiKey}
+use Rattle.card.specs.Calls.{Call, Open, Script, Close, Counters, Verdict, accept, read, judged, Answer, grown, cryptogramFor, gives, newMark, orders, pend, pendAll, laid, accepted, due, reply, plain, step}
+use Rattle.card.specs.Personalise.{personalised}
 use Rattle.history.specs.Run as runs
-use Rattle.history.specs.Demand3 as demands
-use Rattle.history.specs.Examples.{cardAt}
-use Rattle.history.proofs.Change.{change}
+use Rattle.history.specs.Run.{Loading, Box, said, boxed}
+use Rattle.history.specs.Demand2.{Reached, Accepts}
+use Rattle.history.specs.Ledger.{loaded, afterCalls}
+use Rattle.history.specs.Demand3.{Fresh}
+use Rattle.history.specs.Demands.{Demand2, Demand3}
+use Rattle.history.proofs.Boxes.{refusesEverything, zeroed, constantCryptogram, doesNothing, hasPending, firstOnly, madeUpCounters, silent, stored, storedAsAac, wiped, wipes}
+use Rattle.history.proofs.Own.{run}
+use Rattle.history.proofs.Change.{same-code, by, step-by, change, Change, quiet, counted}
 use Rattle.history.proofs.Accepted.{passed}
-use Rattle.history.proofs.Keeps.{keeps, fresh-law}
-use Rattle.history.proofs.Ledger.{kept-law}
-use Rattle.history.proofs.Papers.{length-derived, open-accepted}
+use Rattle.history.proofs.Keeps.{keeps, freshOf, fresh-law, started}
+use Rattle.history.proofs.Shadow.{our-record}
+use Rattle.history.proofs.Onto.{cryptogram-onto}
 
 -- a fresh record, of PIN 1234
-abbrev first-card : Card
-first-card = fresh (replicate 32 0) (replicate 32 0) (replicate 32 0) 0 (replicate 8 0) 0 (0x24 ∷ 0x12 ∷ 0x34 ∷ 0xff ∷ 0xff ∷ 0xff ∷ 0xff ∷ 0xff ∷ [])
-
-is-fresh : Fresh first-card
-unfolding personalised readBlock wellFormed halves pinFits digits found noPin
-is-fresh =
+abbrev first-loading : Loading
+first-loading =
     record {
       ac = replicate 32 0;
       smi = replicate 32 0;
@@ -70,17 +64,25 @@ is-fresh =
       counters = replicate 8 0;
       mark = 0;
       block = 0x24 ∷ 0x12 ∷ 0x34 ∷ 0xff ∷ 0xff ∷ 0xff ∷ 0xff ∷ 0xff ∷ [];
-      accepted = refl;
     }
+
+is-fresh : Fresh first-loading
+unfolding personalised readBlock wellFormed halves pinFits digits found noPin
+is-fresh = refl
+
+abbrev first-card : Card
+first-card = freshOf first-loading
+
+starts : loaded first-loading ≡ first-card
+starts = ap (λ (a : Reply). a .card) (started first-loading is-fresh)
+
+first-sound : sound first-card ≡ true
+first-sound = sym (ap sound starts) ∙ fresh-law first-loading is-fresh
 
 -- the SMI key always has its length
 length-smi : (r : Card) → length (smiKey r) ≡ 32
-unfolding smiKey scriptKey derivation key-made noKey
-length-smi r = go (keyFits (r .smi) && seedFits (r .transaction .cryptogram))
-  where
-    go : (b : Bool) → length (cond b (key-made (derived (r .smi) cardLabel (r .transaction .cryptogram))) (noKey 1) .bytes) ≡ 32
-    go true = length-derived _ _ _
-    go false = refl
+unfolding smiKey derived hmac
+length-smi r = length-hash256 _
 
 -- a command of the block mark, wrapped under the transaction's key, is accepted
 abbrev order : Card → Command → List ℕ
@@ -105,9 +107,15 @@ unfolding headerOf
 four sets = refl
 four clears = refl
 
-no-format : {c : Command} → Marks c → (x : PinRead) → formatFits c x ≡ true
-no-format sets x = refl
-no-format clears x = refl
+sets-pin : Command → Bool
+sets-pin SetPin = true
+sets-pin SetMark = false
+sets-pin ClearMark = false
+
+no-pin : {c : Command} → Marks c → c ≡ SetPin → ⊥
+unfolding sets-pin
+no-pin sets z = false≢true (ap sets-pin z)
+no-pin clears z = false≢true (ap sets-pin z)
 
 module _ (r : Card) (s : sound r ≡ true) (o : isOpen (r .transaction .phase) ≡ true) (f : r .counters .failures ≡ 65535 → ⊥) (c : Command) (m : Marks c) where
   abbrev accepts : Accepts r (headerOf c) (order r c)
@@ -121,38 +129,35 @@ module _ (r : Card) (s : sound r ≡ true) (o : isOpen (r .transaction .phase) �
         command = c;
         instruction = ap₂ (commandOf (headerOf c)) (sym (t .the-tag)) (sym (t .the-length)) ∙ is-listed m;
         counter = f;
-        code = t .coded-so;
-        format = no-format m _;
+        code = sym (same-code r (headerOf c) (order r c)) ∙ t .coded-so;
+        format = λ z. absurd (no-pin m z);
       }
 
-  takes-it : judged r (headerOf c) (order r c) ≡ takes (orderOf c (pinIn r (order r c)))
-  takes-it = passed r (headerOf c) (order r c) accepts
+  -- and becomes pending
+  takes-it : step r (Script (headerOf c) (order r c)) ≡ plain (withTransaction r (pendAll (orders (One c) (read r (headerOf c) (order r c) .block)) (r .transaction))) 0
+  takes-it =
+      step-by r s (Script (headerOf c) (order r c))
+      ∙ ap (by r (Script (headerOf c) (order r c))) (passed r (headerOf c) (order r c) accepts)
+      ∙ ap (λ (l : Listed). plain (withTransaction r (pendAll (orders l (read r (headerOf c) (order r c) .block)) (r .transaction))) 0) (accepts .instruction)
 
 -- a close of an open transaction that is not spoilt
-closes-well : (r : Card) → sound r ≡ true → isOpen (r .transaction .phase) ≡ true → r .transaction .spoilt ≡ false → closing r ≡ closes
-unfolding closing
-closes-well r s o p = rw (s, o, p)
+closes-well : (r : Card) → sound r ≡ true → isOpen (r .transaction .phase) ≡ true → r .transaction .spoilt ≡ false → step r Close ≡ plain (accepted r Close) 0
+unfolding judged
+closes-well r s o p = step-by r s Close ∙ rw (o, p)
 
 -- the fresh record, opened, then blocked
+opened-with : (d : List ℕ) → length d ≡ 65 → step first-card (Open d) ≡ reply (accepted first-card (Open d)) (gives first-card (Open d))
+unfolding judged countersOf be le
+opened-with d l = step-by first-card first-sound (Open d) ∙ rw (eq-eqb _ _ l)
+
 abbrev opened-card : Card
 opened-card = step first-card (Open (replicate 65 0)) .card
 
-opens : Opens first-card (replicate 65 0)
-unfolding countersOf be le
-opens =
-    record {
-      sound = fresh-law first-card is-fresh;
-      phase = refl;
-      data-length = refl;
-      atc-free = eqb-false 0 65535 refl;
-      session-free = eqb-false _ _ refl;
-    }
-
-as-opened : step first-card (Open (replicate 65 0)) ≡ openAs first-card (replicate 65 0) accept
-as-opened = ap (openAs first-card (replicate 65 0)) (open-accepted first-card (replicate 65 0) opens)
+as-opened : step first-card (Open (replicate 65 0)) ≡ reply (accepted first-card (Open (replicate 65 0))) (gives first-card (Open (replicate 65 0)))
+as-opened = opened-with (replicate 65 0) refl
 
 opened-sound : sound opened-card ≡ true
-opened-sound = keeps (fresh-law first-card is-fresh) (change first-card (fresh-law first-card is-fresh) (Open (replicate 65 0)))
+opened-sound = keeps first-sound (change first-card first-sound (Open (replicate 65 0)))
 
 opened-open : isOpen (opened-card .transaction .phase) ≡ true
 opened-open = ap (λ (a : Reply). isOpen (a .card .transaction .phase)) as-opened
@@ -167,11 +172,11 @@ block = order opened-card SetMark
 abbrev blocking-card : Card
 blocking-card = step opened-card (Script (headerOf SetMark) block) .card
 
-blocks : judged opened-card (headerOf SetMark) block ≡ takes (newMark true)
+blocks : step opened-card (Script (headerOf SetMark) block) ≡ plain (withTransaction opened-card (pend (newMark true) (opened-card .transaction))) 0
 blocks = takes-it opened-card opened-sound opened-open opened-free SetMark sets
 
-as-blocking : blocking-card ≡ withTransaction opened-card (pend (opened-card .transaction) (newMark true))
-as-blocking = ap (λ (v : Verdict). scriptAs opened-card v .card) blocks
+as-blocking : blocking-card ≡ withTransaction opened-card (pend (newMark true) (opened-card .transaction))
+as-blocking = ap (λ (a : Reply). a .card) blocks
 
 blocking-sound : sound blocking-card ≡ true
 blocking-sound = keeps opened-sound (change opened-card opened-sound (Script (headerOf SetMark) block))
@@ -182,46 +187,76 @@ blocking-open = ap (λ (r : Card). isOpen (r .transaction .phase)) as-blocking �
 blocking-spoilt : blocking-card .transaction .spoilt ≡ false
 blocking-spoilt = ap (λ (r : Card). r .transaction .spoilt) as-blocking ∙ ap (λ (a : Reply). a .card .transaction .spoilt) as-opened
 
-blocking-closes : closing blocking-card ≡ closes
+blocking-closes : step blocking-card Close ≡ plain (accepted blocking-card Close) 0
 blocking-closes = closes-well blocking-card blocking-sound blocking-open blocking-spoilt
 
 blocked : step blocking-card Close .card .mark ≡ true
 unfolding laid
-blocked = ap (λ (v : Closing). closeAs blocking-card v .card .mark) blocking-closes ∙ ap (λ (r : Card). laid (r .transaction) (kept r) .mark) as-blocking
+blocked = ap (λ (a : Reply). a .card .mark) blocking-closes ∙ ap (λ (r : Card). laid (r .transaction) (kept r) .mark) as-blocking
 
--- refuses everything: AcceptedExactly is false of it
-pub refuses-everything : AcceptedExactly refusesEverything → ⊥
-refuses-everything law = eqb-false 1 0 refl (law opened-card (headerOf SetMark) block .1 (accepts opened-card opened-sound opened-open opened-free SetMark sets))
+-- what ours shows after some calls of the fresh record is what the ledger says
+ledger-says : (cs : List Call) → run first-card cs ≡ afterCalls first-loading cs
+ledger-says cs = ap (λ (r : Card). run r cs) (sym starts) ∙ our-record first-loading is-fresh cs
 
--- does nothing: KeptLaw is false of it
+-- so a box that meets demand 2 accepts what ours must accept and gives what ours gives, and one that meets demand 3 shows what ours shows
+module _ (b : Box) (cs : List Call) where
+  abbrev its : Card
+  its = runs.run (boxed b) first-card cs
+
+  from-start : {A : Type 0} (f : Card → A) → f (runs.run (boxed b) (boxed b .start first-loading) cs) ≡ f its
+  from-start f = ap (λ (r : Card). f (runs.run (boxed b) r cs)) starts
+
+  must-accept : Demand2 (boxed b) → (h m : List ℕ) → Accepts (run first-card cs) h m → b its (Script h m) .code ≡ 0
+  must-accept law h m a =
+      sym (from-start (λ (r : Card). b r (Script h m) .code)) ∙ law .accepted first-loading cs h m is-fresh .1 (subst (λ (r : Card). Accepts r h m) (ledger-says cs) a)
+
+  must-give : Demand2 (boxed b) → (c : Call) → b its c .code ≡ 0 → said (b its c) ≡ gives (run first-card cs) c
+  must-give law c z =
+      sym (from-start (λ (r : Card). said (b r c)))
+      ∙ law .given first-loading cs c is-fresh (from-start (λ (r : Card). b r c .code) ∙ z)
+      ∙ ap (λ (r : Card). gives r c) (sym (ledger-says cs))
+
+  must-show : Demand3 (boxed b) → its ≡ run first-card cs
+  must-show law = sym (from-start (λ (r : Card). r)) ∙ law .the-record first-loading cs is-fresh ∙ sym (ledger-says cs)
+
+abbrev some-data : List ℕ
+some-data = replicate 65 0
+
+-- refuses everything: demand 2 is false of it, for a command that must be accepted is not
+pub refuses-everything : Demand2 (boxed refusesEverything) → ⊥
+refuses-everything law =
+    eqb-false 1 0 refl
+    (must-accept refusesEverything (Open some-data ∷ []) law (headerOf SetMark) block (accepts opened-card opened-sound opened-open opened-free SetMark sets))
+
+-- does nothing: the first half of demand 3 is false of it
 abbrev the-calls : List Call
-the-calls = Open (replicate 65 0) ∷ Script (headerOf SetMark) block ∷ Close ∷ []
+the-calls = Open some-data ∷ Script (headerOf SetMark) block ∷ Close ∷ []
 
-pub does-nothing : KeptLaw doesNothing → ⊥
+pub does-nothing : Demand3 (boxed doesNothing) → ⊥
 does-nothing law =
-    let e : kept (runs.run doesNothing first-card the-calls) ≡ kept (runs.run ours first-card the-calls) = law first-card the-calls is-fresh ∙ sym (kept-law first-card the-calls is-fresh) in
-    let z : eqb (step blocking-card Close .code) 0 ≡ true = ap (λ (v : Closing). eqb (closeAs blocking-card v .code) 0) blocking-closes in
+    let e : runs.run (boxed doesNothing) first-card the-calls ≡ run first-card the-calls = must-show doesNothing the-calls law in
+    let z : eqb (step blocking-card Close .code) 0 ≡ true = ap (λ (a : Reply). eqb (a .code) 0) blocking-closes in
     let n : doesNothing blocking-card Close .card .mark ≡ blocking-card .mark = ap (λ (b : Bool). cond b (plain (withTransaction blocking-card none) 0) (step blocking-card Close) .card .mark) z in
     let k : blocking-card .mark ≡ false = ap (λ (r : Card). r .mark) as-blocking ∙ ap (λ (a : Reply). a .card .mark) as-opened in
-    false≢true (sym (n ∙ k) ∙ ap (λ (x : Kept). x .mark) e ∙ blocked)
+    false≢true (sym (n ∙ k) ∙ ap (λ (r : Card). r .mark) e ∙ blocked)
 
--- honours only the first command: KeptLaw is false of it
+-- honours only the first command of a transaction: demand 3 is false of it, for commands change what is kept in order
 abbrev unblock : List ℕ
 unblock = order blocking-card ClearMark
 
 blocking-free : blocking-card .counters .failures ≡ 65535 → ⊥
 blocking-free e = opened-free (sym (ap (λ (r : Card). r .counters .failures) as-blocking) ∙ e)
 
-unblocks : judged blocking-card (headerOf ClearMark) unblock ≡ takes (newMark false)
+unblocks : step blocking-card (Script (headerOf ClearMark) unblock) ≡ plain (withTransaction blocking-card (pend (newMark false) (blocking-card .transaction))) 0
 unblocks = takes-it blocking-card blocking-sound blocking-open blocking-free ClearMark clears
 
 abbrev unblocking-card : Card
 unblocking-card = step blocking-card (Script (headerOf ClearMark) unblock) .card
 
-as-unblocking : unblocking-card ≡ withTransaction blocking-card (pend (blocking-card .transaction) (newMark false))
-as-unblocking = ap (λ (v : Verdict). scriptAs blocking-card v .card) unblocks
+as-unblocking : unblocking-card ≡ withTransaction blocking-card (pend (newMark false) (blocking-card .transaction))
+as-unblocking = ap (λ (a : Reply). a .card) unblocks
 
-unblocking-closes : closing unblocking-card ≡ closes
+unblocking-closes : step unblocking-card Close ≡ plain (accepted unblocking-card Close) 0
 unblocking-closes =
     closes-well unblocking-card (keeps blocking-sound (change blocking-card blocking-sound (Script (headerOf ClearMark) unblock)))
     (ap (λ (r : Card). isOpen (r .transaction .phase)) as-unblocking ∙ blocking-open)
@@ -229,7 +264,7 @@ unblocking-closes =
 
 unblocked : step unblocking-card Close .card .mark ≡ false
 unfolding laid
-unblocked = ap (λ (v : Closing). closeAs unblocking-card v .card .mark) unblocking-closes ∙ ap (λ (r : Card). laid (r .transaction) (kept r) .mark) as-unblocking
+unblocked = ap (λ (a : Reply). a .card .mark) unblocking-closes ∙ ap (λ (r : Card). laid (r .transaction) (kept r) .mark) as-unblocking
 
 -- with nothing pending it takes the first, and then no more
 first-taken : firstOnly opened-card (Script (headerOf SetMark) block) ≡ step opened-card (Script (headerOf SetMark) block)
@@ -237,7 +272,7 @@ first-taken =
     ap (λ (b : Bool). cond (b && eqb (step opened-card (Script (headerOf SetMark) block) .code) 0) (plain opened-card 0) (step opened-card (Script (headerOf SetMark) block)))
     (ap (λ (a : Reply). hasPending (a .card .transaction)) as-opened)
 
-pending-mark : (t : Transaction) → hasPending (pend t (newMark true)) ≡ true
+pending-mark : (t : Transaction) → hasPending (pend (newMark true) t) ≡ true
 pending-mark t = go (eqb (t .count) 0)
   where
     go : (b : Bool) → not (b && false) ≡ true
@@ -248,55 +283,76 @@ second-lost : firstOnly blocking-card (Script (headerOf ClearMark) unblock) ≡ 
 second-lost =
     ap₂ (λ (b c : Bool). cond (b && c) (plain blocking-card 0) (step blocking-card (Script (headerOf ClearMark) unblock)))
     (ap (λ (r : Card). hasPending (r .transaction)) as-blocking ∙ pending-mark (opened-card .transaction))
-    (ap (λ (v : Verdict). eqb (scriptAs blocking-card v .code) 0) unblocks)
+    (ap (λ (a : Reply). eqb (a .code) 0) unblocks)
 
 abbrev two-calls : List Call
 two-calls = Open (replicate 65 0) ∷ Script (headerOf SetMark) block ∷ Script (headerOf ClearMark) unblock ∷ Close ∷ []
 
-pub first-only : KeptLaw firstOnly → ⊥
+pub first-only : Demand3 (boxed firstOnly) → ⊥
 first-only law =
     let f : firstOnly opened-card (Script (headerOf SetMark) block) .card ≡ blocking-card = ap (λ (a : Reply). a .card) first-taken in
-    let p = scripted (demands.turned blankPage first-card (Open (replicate 65 0)) (step first-card (Open (replicate 65 0)) .code)) (decides opened-card (headerOf SetMark) block) in
-    let g : demands.allGood firstOnly blankPage first-card two-calls ≡ demands.allGood ours blankPage first-card two-calls =
-    ap (λ (r : Card). madeGood (scripted p (decides r (headerOf ClearMark) unblock)) Close ++ []) f
-    in
-    let e : kept (runs.run firstOnly first-card two-calls) ≡ kept (runs.run ours first-card two-calls) =
-    law first-card two-calls is-fresh ∙ ap (λ (os : List Order). allObeyed os (kept first-card)) g ∙ sym (kept-law first-card two-calls is-fresh)
-    in
-    let l : runs.run firstOnly first-card two-calls ≡ step blocking-card Close .card =
+    let e : runs.run (boxed firstOnly) first-card two-calls ≡ run first-card two-calls = must-show firstOnly two-calls law in
+    let l : runs.run (boxed firstOnly) first-card two-calls ≡ step blocking-card Close .card =
     ap (λ (r : Card). firstOnly (firstOnly r (Script (headerOf ClearMark) unblock) .card) Close .card) f ∙ ap (λ (a : Reply). step (a .card) Close .card) second-lost
     in
-    true≢false (sym (ap (λ (r : Card). r .mark) l ∙ blocked) ∙ ap (λ (x : Kept). x .mark) e ∙ unblocked)
+    true≢false (sym (ap (λ (r : Card). r .mark) l ∙ blocked) ∙ ap (λ (r : Card). r .mark) e ∙ unblocked)
 
--- made-up counters: AtcLaw is false of it
-counters-kept : (r : Card) → step r Counters .card ≡ r
-counters-kept r = go (counting r)
-  where
-    go : (v : Judgment) → countersAs r v .card ≡ r
-    go (refuse q) = refl
-    go accept = refl
-
-pub made-up-counters : AtcLaw madeUpCounters → ⊥
+-- made-up counters: demand 3 is false of them, for they are counted from the calls
+pub made-up-counters : Demand3 (boxed madeUpCounters) → ⊥
 made-up-counters law =
-    let e : step first-card Counters .card .atc + 1 ≡ 0 = law first-card (Counters ∷ []) is-fresh in
-    eqb-false 1 0 refl (ap (λ (r : Card). r .atc + 1) (sym (counters-kept first-card)) ∙ e)
+    let e : step first-card Counters .card .atc + 1 ≡ step first-card Counters .card .atc = ap (λ (r : Card). r .atc) (must-show madeUpCounters (Counters ∷ []) law) in
+    absurd (omega arith)
 
--- constant bytes: CountersLaw is false of them, since two counter blocks differ and enciphering can be undone
-abbrev counting-card : ℕ → Card
-counting-card n = withTransaction (withCounters (cardAt 1) 1 (withSession (cardAt 1 .counters) n)) (begun false (replicate 8 0))
+-- never changes its record: demand 3 is false of it
+pub never-changes : Demand3 (boxed silent) → ⊥
+never-changes law =
+    let e : first-card ≡ opened-card = must-show silent (Open some-data ∷ []) law in
+    eqb-false 0 1 refl (ap (λ (r : Card). r .atc) e ∙ ap (λ (a : Reply). a .card .atc) as-opened)
 
-is-counted : (n : ℕ) → constantCryptogram (counting-card n) Counters .code ≡ 0
-unfolding counting sound pinFits digits pendingFits restFits same
-is-counted n = refl
+-- data whose cryptogram is 01 00 00 00 01 00 00 00
+telling : Reached (subkeys 8 (sessionKeyOf (grown first-card))) Arqc 1 1
+telling = cryptogram-onto (subkeys 8 (sessionKeyOf (grown first-card))) Arqc 1 1 (lit< tt)
 
-undone : (n : ℕ) → length (counterBlock (counting-card n .counters)) ≡ 8 → Octets (counterBlock (counting-card n .counters)) → (key : List ℕ)
-    → replicate 8 0 ≡ encipher key (counterBlock (counting-card n .counters)) → decipher key (replicate 8 0) ≡ counterBlock (counting-card n .counters)
-undone n l o key e = ap (decipher key) e ∙ decipher-encipher (counterBlock (counting-card n .counters)) l o key
+tells : cryptogramFor (grown first-card) (telling .its-data) ≡ twice (leOctets 4 1)
+unfolding cryptogramFor
+tells = telling .gives
 
-pub constant-cryptogram : CountersLaw constantCryptogram → ⊥
-unfolding counterBlock beOctets leOctets
+not-zeros : replicate 8 0 ≡ twice (leOctets 4 1) → ⊥
+unfolding twice leOctets
+not-zeros e = eqb-false 0 1 refl (ap (λ (s : List ℕ). getD s 0 0) e)
+
+-- gives a constant cryptogram: demand 2 is false of it
+pub constant-cryptogram : Demand2 (boxed constantCryptogram) → ⊥
 constant-cryptogram law =
-    let key = hash256 (derived (replicate 32 0) cardLabel (sessionSeed 1)) in
-    let a = undone 0 refl (octets-test (counterBlock (counting-card 0 .counters)) tt) key (law (counting-card 0) refl (is-counted 0)) in
-    let b = undone 1 refl (octets-test (counterBlock (counting-card 1 .counters)) tt) key (law (counting-card 1) refl (is-counted 1)) in
-    eqb-false 0 1 refl (ap (λ (s : List ℕ). getD s 1 0) (sym a ∙ b))
+    let d = telling .its-data in
+    let e : constantCryptogram first-card (Open d) ≡ zeroed first-card d =
+    ap (λ (n : ℕ). cond (eqb n 0) (zeroed first-card d) (step first-card (Open d))) (ap (λ (a : Reply). a .code) (opened-with d (telling .data-length)))
+    in
+    let g = must-give constantCryptogram [] law (Open d) (ap (λ (a : Reply). a .code) e) in
+    not-zeros (sym (ap (λ (a : Reply). a .bytes) e) ∙ ap (λ (a : Answer). a .bytes) g ∙ tells)
+
+-- stores every transaction as an AAC: demand 3 is false of it
+pub stored-as-aac : Demand3 (boxed storedAsAac) → ⊥
+stored-as-aac law =
+    let e : storedAsAac first-card (Open some-data) .card ≡ opened-card = must-show storedAsAac (Open some-data ∷ []) law in
+    let p : isArqc (storedAsAac first-card (Open some-data) .card .transaction .phase) ≡ false =
+    ap (λ (y : Reply). isArqc (cond (eqb (y .code) 0) (stored y) y .card .transaction .phase)) as-opened
+    in
+    false≢true (sym p ∙ ap (λ (r : Card). isArqc (r .transaction .phase)) e ∙ ap (λ (y : Reply). isArqc (y .card .transaction .phase)) as-opened)
+
+-- forgets the cryptogram at Counters: demand 3 is false of it
+kept-by : {r : Card} {a : Reply} → Change r Counters a → a .card ≡ r
+kept-by (quiet q e) = refl
+kept-by counted = refl
+
+pub forgets-cryptogram : Demand3 (boxed wipes) → ⊥
+forgets-cryptogram law =
+    let d = telling .its-data in
+    let cs = Open d ∷ Counters ∷ [] in
+    let r = step first-card (Open d) .card in
+    let s : sound r ≡ true = keeps first-sound (change first-card first-sound (Open d)) in
+    let e : withTransaction r (wiped (r .transaction)) ≡ step r Counters .card = must-show wipes cs law in
+    not-zeros
+    (ap (λ (c : Card). c .transaction .cryptogram) (e ∙ kept-by (change r s Counters))
+    ∙ ap (λ (a : Reply). a .card .transaction .cryptogram) (opened-with d (telling .data-length))
+    ∙ tells)

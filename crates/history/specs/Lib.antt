@@ -1,6 +1,7 @@
 pub mod Run
 pub mod Demand2
-pub mod Decides
+pub mod Ledger
 pub mod Demand3
-pub mod Boxes
+pub mod Demands
 pub mod Examples
+pub mod Cases

@@ -1,13 +1,54 @@
--- A run of calls, and its history (demand 3: "make any run of the other card calls"). Assumes nothing.
+-- A box, a run of calls, and its history (demand 3: "make any run of the other card calls"). Assumes nothing.
 use Prim.Native.Nat.{ℕ}
 use mathlib.Core.Bool.{Bool, _&&_}
 use mathlib.Core.List.{List, [], _∷_}
 use lib.Dec.{eqb}
 use Rattle.card.specs.declared.Card.{Card}
 use Rattle.card.specs.declared.Reply.{Reply}
-use Rattle.card.specs.Calls.{Call, Open, IssuerAnswer, Script, Close, Withdraw, Counters}
+use Rattle.card.specs.Calls.{Call, Open, IssuerAnswer, Script, Close, Withdraw, Counters, Answer, step}
+use Rattle.card.specs.Personalise.{personalised}
 
--- a call's frame in the clerk's trace
+-- what a card is personalised with (01, frame 00): keys AC, SMI, SMC, counter, counter block, mark, clear PIN block
+pub record Loading : Type 0 where
+  pub ac : List ℕ
+  pub smi : List ℕ
+  pub smc : List ℕ
+  pub atc : ℕ
+  pub counters : List ℕ
+  pub mark : ℕ
+  pub block : List ℕ
+
+-- a box: a state of its own; what it answers to personalisation, and the state after it; what it answers to a call, and the state after it; and
+-- the record that it shows
+pub record AnyBox : Type 1 where
+  pub State : Type 0
+  pub welcome : Loading → Answer
+  pub start : Loading → State
+  pub answer : State → Call → Answer
+  pub after : State → Call → State
+  pub shown : State → Card
+
+-- the state after some calls
+abbrev pub run : (b : AnyBox) → b .State → List Call → b .State
+run b s [] = s
+run b s (c ∷ cs) = run b (b .after s c) cs
+
+-- a call and its answer
+pub data Entry : Type 0 where
+  did : Call → Answer → Entry
+
+abbrev pub History : Type 0
+History = List Entry
+
+abbrev pub history : (b : AnyBox) → b .State → List Call → History
+history b s [] = []
+history b s (c ∷ cs) = did c (b .answer s c) ∷ history b (b .after s c) cs
+
+abbrev pub callsOf : History → List Call
+callsOf [] = []
+callsOf (did c a ∷ t) = c ∷ callsOf t
+
+-- a call's frame in the clerk's trace, and a call of some frame that was answered with some number
 abbrev pub frame : Call → ℕ
 frame (Open d) = 1
 frame (IssuerAnswer arpc csu) = 2
@@ -16,41 +57,10 @@ frame Close = 4
 frame Withdraw = 5
 frame Counters = 6
 
--- a box: what it answers to a call on a record, and the record after it
-abbrev pub Box : Type 0
-Box = Card → Call → Reply
-
--- the record after some calls
-abbrev pub run : Box → Card → List Call → Card
-run b r [] = r
-run b r (c ∷ cs) = run b (b r c .card) cs
-
--- a call and its answer: number, kind and bytes
-pub data Entry : Type 0 where
-  did : Call → ℕ → ℕ → List ℕ → Entry
-
-abbrev pub entry : Call → Reply → Entry
-entry c a = did c (a .code) (a .kind) (a .bytes)
-
-abbrev pub History : Type 0
-History = List Entry
-
-abbrev pub history : Box → Card → List Call → History
-history b r [] = []
-history b r (c ∷ cs) = entry c (b r c) ∷ history b (b r c .card) cs
-
-abbrev pub callOf : Entry → Call
-callOf (did c n k b) = c
-
-abbrev pub callsOf : History → List Call
-callsOf [] = []
-callsOf (e ∷ t) = callOf e ∷ callsOf t
-
--- a call of some frame that was answered with some number
 abbrev pub was : ℕ → ℕ → Entry → Bool
-was f number (did c n k x) = eqb (frame c) f && eqb n number
+was f number (did c a) = eqb (frame c) f && eqb (a .number) number
 
--- an accepted opening (frame 01), an accepted issuer answer (02), an accepted script (03), a script refused with 8
+-- an accepted opening, an accepted issuer answer, an accepted script, a script refused with 8
 abbrev pub opened : Entry → Bool
 opened e = was 1 0 e
 
@@ -62,3 +72,27 @@ taken e = was 3 0 e
 
 abbrev pub failed : Entry → Bool
 failed e = was 3 8 e
+
+-- a box whose state is the record, which each call hands back: ours is the one of step, which every method of the card is proved to be
+abbrev pub Box : Type 0
+Box = Card → Call → Reply
+
+abbrev pub said : Reply → Answer
+said a = record { number = a .code; kind = a .kind; bytes = a .bytes }
+
+abbrev pub personalisedWith : Loading → Reply
+personalisedWith l = personalised (l .ac) (l .smi) (l .smc) (l .atc) (l .counters) (l .mark) (l .block)
+
+abbrev pub boxed : Box → AnyBox
+boxed b =
+    record {
+      State = Card;
+      welcome = λ l. said (personalisedWith l);
+      start = λ l. personalisedWith l .card;
+      answer = λ r c. said (b r c);
+      after = λ r c. b r c .card;
+      shown = λ r. r;
+    }
+
+abbrev pub ours : AnyBox
+ours = boxed (λ r c. step r c)

@@ -1,21 +1,10 @@
--- The worked examples of 01 for Y (P1, P2), two of it packed, and the one of annex A of 003 for pairs of digits. Assumes nothing.
+-- Two examples of Y packed, and the one of annex A of 003 for pairs of digits. Assumes nothing.
 use mathlib.Core.Path.{_≡_, refl}
 use mathlib.Core.List.{[], _∷_}
 use Rattle.octets.specs.Digits.{pairs}
-use Rattle.keys.specs.CardNumber.{X, sixteen, Y, packedY}
+use Rattle.keys.specs.CardNumber.{X, sixteen, packedY}
 
--- card number 123456789012345671, sequence 95
-pub P1 : Y (1 ∷ 2 ∷ 3 ∷ 4 ∷ 5 ∷ 6 ∷ 7 ∷ 8 ∷ 9 ∷ 0 ∷ 1 ∷ 2 ∷ 3 ∷ 4 ∷ 5 ∷ 6 ∷ 7 ∷ 1 ∷ []) 95
-    ≡ 0x38 ∷ 0x4e ∷ 0x5a ∷ 0x0c ∷ 0x22 ∷ 0x38 ∷ 0x47 ∷ 0x5f ∷ []
-unfolding Y X sixteen pairs
-P1 = refl
-
--- card number 123456789012, no sequence number (with the side of Wish 3)
-pub P2 : Y (1 ∷ 2 ∷ 3 ∷ 4 ∷ 5 ∷ 6 ∷ 7 ∷ 8 ∷ 9 ∷ 0 ∷ 1 ∷ 2 ∷ []) 0 ≡ 0x00 ∷ 0x0c ∷ 0x22 ∷ 0x38 ∷ 0x4e ∷ 0x5a ∷ 0x0c ∷ 0x00 ∷ []
-unfolding Y X sixteen pairs
-P2 = refl
-
--- the same card packed, and the card of 003 A.2 (6789012345673, sequence 93), whose printed master keys come of this seed
+-- the card of P2 packed, and the card of 003 A.2 (6789012345673, sequence 93), whose printed master keys come of this seed
 pub P2-packed : packedY (1 ∷ 2 ∷ 3 ∷ 4 ∷ 5 ∷ 6 ∷ 7 ∷ 8 ∷ 9 ∷ 0 ∷ 1 ∷ 2 ∷ []) 0 ≡ 0x00 ∷ 0x12 ∷ 0x34 ∷ 0x56 ∷ 0x78 ∷ 0x90 ∷ 0x12 ∷ 0x00 ∷ []
 unfolding packedY X sixteen pairs
 P2-packed = refl

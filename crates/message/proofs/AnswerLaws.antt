@@ -1,5 +1,5 @@
 -- What the entry points answer, test by test. Assumes nothing.
-use mathlib.Core.Path.{_≡_, sym, ap, ap₂, _∙_}
+use mathlib.Core.Path.{_≡_, refl, sym, ap, ap₂, _∙_}
 use mathlib.Core.Bool.{Bool, true, false, not}
 use mathlib.Core.List.{List}
 use Prim.Native.Nat.{ℕ, _+_, _-_}
@@ -8,17 +8,22 @@ use borrow.Author.Tests.{not-true, not-false}
 use lib.ListN.{length, take, drop, length-drop}
 use lib.Seq.{take-all}
 use Rattle.octets.specs.Same.{same}
+use Rattle.shapes.specs.declared.Opened.{Opened}
 use Rattle.shapes.specs.declared.Opened.the-variants.{Data, Refused}
 use Rattle.shapes.specs.Length.{lengthOf, placeOf}
 use Rattle.shapes.specs.Shape.{bodySize, bodyOf, codeIn, shape}
-use Rattle.shapes.specs.Answers.{number, answer}
-use Rattle.shapes.proofs.AnswerLaws.{number-answer, Told}
+use Rattle.shapes.specs.Answers.{number, answer, Tells}
+use Rattle.shapes.proofs.AnswerLaws.{number-answer, tells, Told}
 use Rattle.message.specs.Code.{codeFor, given, codeFits}
 use Rattle.message.specs.Answers.{openNumber, opened}
 
 pub number-opened : (key header m : List ℕ) → number (opened key header m) ≡ openNumber key header m
 unfolding opened
 number-opened key header m = number-answer (openNumber key header m) m
+
+pub tells-opened : (key header m : List ℕ) {r : Opened} → r ≡ opened key header m → Tells r (opened key header m) (openNumber key header m) m
+unfolding opened
+tells-opened key header m e = tells (opened key header m) (openNumber key header m) m refl e
 
 -- one law for each way out of the test of a code, and of opening
 module _ (key header m : List ℕ) (g : Bool) (e : g ≡ given key header) where

@@ -10,8 +10,9 @@ ghost use Prim.Native.Nat.{_+_, _≤_};
 ghost use lib.ListN.{length, take, replicate};
 ghost use Rattle.shapes.specs.Length.{largest, lengthField, placeOf};
 ghost use Rattle.shapes.specs.Shape.{codeHead, bodySize};
+ghost use Rattle.shapes.specs.Answers.{Tells};
 ghost use Rattle.message.specs.Code.{X, Y, codeFor, given as areGiven, codeFits};
-ghost use Rattle.message.specs.Answers.{opened, laid, wrapNumber, wrapped, Wrote};
+ghost use Rattle.message.specs.Answers.{openNumber, opened, laid, wrapNumber, wrapped, Wrote};
 
 // Whether key and header have their lengths.
 fn given(key: &[u8], header: &[u8]) -> bool
@@ -85,7 +86,7 @@ pub fn code_fits(key: &[u8], header: &[u8], message: &[u8]) -> bool
 
 // Tag, place and length of the data of a message with its code under the key; or 1, 4 or 8.
 pub fn open_message(key: &[u8], header: &[u8], message: &[u8]) -> Opened
-    ensures { λ r. ⌜ r ≡ opened (now (key .entry)) (now (header .entry)) (now (message .entry)) ⌝ }
+    ensures { λ r. ⌜ Tells r (opened (now (key .entry)) (now (header .entry)) (now (message .entry))) (openNumber (now (key .entry)) (now (header .entry)) (now (message .entry))) (now (message .entry)) ⌝ }
 {
     if !given(key, header) {
         return Opened::Refused(1);

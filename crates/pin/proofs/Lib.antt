@@ -2,5 +2,4 @@ pub mod BlockLaws
 pub mod AnswerLaws
 pub mod CounterLaws
 pub mod Inverse
-pub mod Examples
 pub mod FoundLaws

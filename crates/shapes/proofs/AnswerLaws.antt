@@ -13,7 +13,7 @@ use Rattle.shapes.specs.declared.Opened.{Opened}
 use Rattle.shapes.specs.declared.Opened.the-variants.{Data, Refused}
 use Rattle.shapes.specs.Length.{largest, lengthOf, placeOf}
 use Rattle.shapes.specs.Shape.{tagFits, codeHead, tagOf, shape}
-use Rattle.shapes.specs.Answers.{number, values, answer, shaped}
+use Rattle.shapes.specs.Answers.{number, values, answer, shaped, Tells}
 use Rattle.shapes.proofs.LengthLaws.{largest-small, place-small}
 use Rattle.shapes.proofs.ShapeLaws.{Good, good-shape, shape-good}
 
@@ -29,6 +29,21 @@ number-answer r m = go (eqb r 0) refl
 pub values-answer : (m : List ℕ) → values (answer 0 m) ≡ tagOf m ∷ placeOf (lengthOf m) ∷ lengthOf m ∷ []
 unfolding values answer
 values-answer m = refl
+
+values-so : (r : ℕ) (m : List ℕ) → values (answer r m) ≡ cond (eqb r 0) (tagOf m ∷ placeOf (lengthOf m) ∷ lengthOf m ∷ []) []
+unfolding values answer
+values-so r m = go (eqb r 0)
+  where
+    go : (b : Bool) → values (cond b (Data (tagOf m) (placeOf (lengthOf m)) (lengthOf m)) (Refused r)) ≡ cond b (tagOf m ∷ placeOf (lengthOf m) ∷ lengthOf m ∷ []) []
+    go true = refl
+    go false = refl
+
+pub tells : (o : Opened) (n : ℕ) (m : List ℕ) → o ≡ answer n m → {r : Opened} → r ≡ o → Tells r o n m
+tells o n m a e = record { is = e; its-number = ap number (e ∙ a) ∙ number-answer n m; its-values = ap values (e ∙ a) ∙ values-so n m }
+
+pub tells-shaped : (m : List ℕ) {r : Opened} → r ≡ shaped m → Tells r (shaped m) (cond (shape m) 0 4) m
+unfolding shaped
+tells-shaped m e = tells (shaped m) (cond (shape m) 0 4) m refl e
 
 pub number-shaped : (m : List ℕ) → number (shaped m) ≡ cond (shape m) 0 4
 unfolding shaped
@@ -95,12 +110,12 @@ pub record Told (m : List ℕ) (t p n : ℕ) : Type 0 where
   pub small-place : p ≤ 3
   pub small-length : n ≤ 255
 
-pub told-data : (m : List ℕ) (r : Opened) (t p n : ℕ) → r ≡ shaped m → r ≡ Data t p n → Told m t p n
-told-data m r t p n e f = go (shape m) refl
+pub told-data : (m : List ℕ) (r : Opened) (t p n : ℕ) → Tells r (shaped m) (cond (shape m) 0 4) m → r ≡ Data t p n → Told m t p n
+told-data m r t p n a f = go (shape m) refl
   where
     go : (b : Bool) → shape m ≡ b → Told m t p n
     go true g =
-        let w : Data t p n ≡ Data (tagOf m) (placeOf (lengthOf m)) (lengthOf m) = sym f ∙ e ∙ sym (shaped-good m g) in
+        let w : Data t p n ≡ Data (tagOf m) (placeOf (lengthOf m)) (lengthOf m) = sym f ∙ a .is ∙ sym (shaped-good m g) in
         let q : p ≡ placeOf (lengthOf m) = cc in
         let k : n ≡ lengthOf m = cc in
         let o = shape-good m g in
@@ -116,7 +131,7 @@ told-data m r t p n e f = go (shape m) refl
           small-length = omega (arith, largest-small);
         }
     go false g =
-        let w : Data t p n ≡ Refused 4 = sym f ∙ e ∙ sym (shaped-bad m g) in
+        let w : Data t p n ≡ Refused 4 = sym f ∙ a .is ∙ sym (shaped-bad m g) in
         let z : _≡_ {A = ℕ} 0 1 = cc in
         absurd (omega arith)
 
@@ -124,12 +139,12 @@ told-data m r t p n e f = go (shape m) refl
 pub told-body : (m : List ℕ) (t p n : ℕ) → Told m t p n → length (take (p + n + 2) m) + 1 ≤ 264
 told-body m t p n w = let l = length-take-le (p + n + 2) m (omega arith) in omega arith
 
-pub told-refused : (m : List ℕ) (r : Opened) (x : ℕ) → r ≡ shaped m → r ≡ Refused x → shape m ≡ false
-told-refused m r x e f = go (shape m) refl
+pub told-refused : (m : List ℕ) (r : Opened) (x : ℕ) → Tells r (shaped m) (cond (shape m) 0 4) m → r ≡ Refused x → shape m ≡ false
+told-refused m r x a f = go (shape m) refl
   where
     go : (b : Bool) → shape m ≡ b → shape m ≡ false
     go false g = g
     go true g =
-        let w : Refused x ≡ Data (tagOf m) (placeOf (lengthOf m)) (lengthOf m) = sym f ∙ e ∙ sym (shaped-good m g) in
+        let w : Refused x ≡ Data (tagOf m) (placeOf (lengthOf m)) (lengthOf m) = sym f ∙ a .is ∙ sym (shaped-good m g) in
         let z : _≡_ {A = ℕ} 0 1 = cc in
         absurd (omega arith)

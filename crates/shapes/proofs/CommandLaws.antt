@@ -1,7 +1,7 @@
 -- Which command a header, a tag and a length are for, test by test and exactly. Assumes nothing.
 use mathlib.Core.Path.{_≡_, refl, sym, ap, _∙_}
 use mathlib.Core.Bool.{Bool, true, false, not, cond, and-false, and-eq-true-iff}
-use mathlib.Core.List.{List}
+use mathlib.Core.List.{List, [], _∷_}
 use Prim.Native.Nat.{ℕ}
 use native.Mathlib.Omega.{arith}
 use borrow.Author.Tests.{eq-eqb, ne-eqb, not-true, not-false, eqb-true}
@@ -12,7 +12,7 @@ use Rattle.shapes.specs.declared.command.Command.{Command}
 use Rattle.shapes.specs.declared.command.Command.the-variants.{SetPin, SetMark, ClearMark}
 use Rattle.shapes.specs.declared.command.Listed.{Listed}
 use Rattle.shapes.specs.declared.command.Listed.the-variants.{One, Unlisted}
-use Rattle.shapes.specs.Command.{headerOf, tagFor, lengthFor, isFor, listed, firstOf, commandOf, refusal}
+use Rattle.shapes.specs.Command.{headerOf, tagFor, lengthFor, isFor, listed, firstOf, commandOf, refusal, numberFor, Lists}
 
 module _ (k : Command) (header : List ℕ) (tag n : ℕ) where
   module _ (own : List ℕ) (e : own ≡ headerOf k) (t : Bool) (f : t ≡ same header own) where
@@ -82,6 +82,20 @@ unfolding commandOf firstOf listed isFor headerOf tagFor lengthFor same
 its-listed SetPin = refl
 its-listed SetMark = refl
 its-listed ClearMark = refl
+
+number-first : (cs : List Command) (header : List ℕ) (tag n : ℕ) → refusal (firstOf cs header tag n) ≡ numberFor cs header tag n
+unfolding refusal firstOf
+number-first [] header tag n = refl
+number-first (c ∷ cs) header tag n = go (isFor c header tag n) (number-first cs header tag n)
+  where
+    go : (b : Bool) → refusal (firstOf cs header tag n) ≡ numberFor cs header tag n
+        → refusal (cond b (One c) (firstOf cs header tag n)) ≡ cond b 0 (numberFor cs header tag n)
+    go true e = refl
+    go false e = e
+
+pub lists : {r : Listed} {header : List ℕ} {tag n : ℕ} → r ≡ commandOf header tag n → Lists r header tag n
+unfolding commandOf
+lists {r} {header} {tag} {n} e = record { is = e; its-number = ap refusal e ∙ number-first listed header tag n }
 
 -- the numbers: 0 of a command, 5 where header, tag and length are no command's
 pub accepted-listed : (k : Command) → refusal (commandOf (headerOf k) (tagFor k) (lengthFor k)) ≡ 0

@@ -1,5 +1,6 @@
 -- What the shape of a message answers, for every input. Assumes nothing.
 use Prim.Native.Nat.{ℕ}
+use mathlib.Core.Path.{_≡_}
 use mathlib.Core.Bool.{cond}
 use mathlib.Core.List.{List, [], _∷_}
 use lib.Dec.{eqb}
@@ -24,3 +25,9 @@ answer r m = cond (eqb r 0) (Data (tagOf m) (placeOf (lengthOf m)) (lengthOf m))
 -- the shape alone: 4
 unfoldable pub shaped : List ℕ → Opened
 shaped m = answer (cond (shape m) 0 4) m
+
+-- 01: "For any answer that is an enum, a definition gives this paper's number and values for each case. The promises use that definition."
+pub record Tells (r o : Opened) (n : ℕ) (m : List ℕ) : Type 0 where
+  pub is : r ≡ o
+  pub its-number : number r ≡ n
+  pub its-values : values r ≡ cond (eqb n 0) (tagOf m ∷ placeOf (lengthOf m) ∷ lengthOf m ∷ []) []

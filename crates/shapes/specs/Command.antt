@@ -1,5 +1,6 @@
 -- The script commands (01, The soft card, Script). Assumes nothing.
 use Prim.Native.Nat.{ℕ}
+use mathlib.Core.Path.{_≡_}
 use mathlib.Core.Bool.{Bool, _&&_, cond}
 use mathlib.Core.List.{List, [], _∷_}
 use lib.Dec.{eqb}
@@ -44,7 +45,15 @@ firstOf (c ∷ cs) header tag n = cond (isFor c header tag n) (One c) (firstOf c
 unfoldable pub commandOf : List ℕ → ℕ → ℕ → Listed
 commandOf header tag n = firstOf listed header tag n
 
--- 01's number of an answer: "class, instruction, parameters, tag or L not one listed" is 5
+-- 01's number of an answer, whose value is the command: "class, instruction, parameters, tag or L not one listed" is 5
 unfoldable pub refusal : Listed → ℕ
 refusal (One c) = 0
 refusal Unlisted = 5
+
+abbrev pub numberFor : List Command → List ℕ → ℕ → ℕ → ℕ
+numberFor [] header tag n = 5
+numberFor (c ∷ cs) header tag n = cond (isFor c header tag n) 0 (numberFor cs header tag n)
+
+pub record Lists (r : Listed) (header : List ℕ) (tag n : ℕ) : Type 0 where
+  pub is : r ≡ commandOf header tag n
+  pub its-number : refusal r ≡ numberFor listed header tag n

@@ -1,6 +1,6 @@
 // The script commands that 01 lists.
 ghost use mathlib.Core.Path.{_≡_};
-ghost use Rattle.shapes.specs.Command.{headerOf, tagFor, lengthFor, isFor, commandOf};
+ghost use Rattle.shapes.specs.Command.{headerOf, tagFor, lengthFor, isFor, Lists};
 
 // What a script command does: sets the PIN, sets the block mark, clears it.
 pub enum Command {
@@ -83,7 +83,7 @@ impl Command {
 
     // The listed command that header, tag and length are for.
     pub fn listed(header: &[u8], tag: u8, length: usize) -> Listed
-        ensures { λ r. ⌜ r ≡ commandOf (now (header .entry)) tag length ⌝ }
+        ensures { λ r. ⌜ Lists r (now (header .entry)) tag length ⌝ }
     {
         if Command::SetPin.is_for(header, tag, length) {
             return Listed::One(Command::SetPin);

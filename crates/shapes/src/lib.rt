@@ -1,11 +1,12 @@
 // The shape of script messages (R 1323565.1.008), and the script commands.
 ghost use mathlib.Core.Path.{_≡_};
+ghost use mathlib.Core.Bool.{cond};
 ghost use mathlib.Core.List.{[], _∷_};
 ghost use lib.ListN.{getD};
 ghost use Rattle.octets.specs.Same.{same};
 ghost use Rattle.shapes.specs.Length.{lengthOf, placeOf};
-ghost use Rattle.shapes.specs.Shape.{tagFits, codeHead};
-ghost use Rattle.shapes.specs.Answers.{shaped};
+ghost use Rattle.shapes.specs.Shape.{tagFits, codeHead, shape as hasShape};
+ghost use Rattle.shapes.specs.Answers.{shaped, Tells};
 
 mod command;
 
@@ -89,7 +90,7 @@ fn is_code_head(a: u8, b: u8) -> bool
 
 // Tag, place and length of the data of a message of good shape, or 4.
 pub fn shape(message: &[u8]) -> Opened
-    ensures { λ r. ⌜ r ≡ shaped (now (message .entry)) ⌝ }
+    ensures { λ r. ⌜ Tells r (shaped (now (message .entry))) (cond (hasShape (now (message .entry))) 0 4) (now (message .entry)) ⌝ }
 {
     let length = length_of(message);
     if length > LARGEST {

@@ -4,7 +4,7 @@ use Rattle.card.proofs.arpc_for.Statement.{statement}
 use Rattle.card.proofs.arpc_for.Tie as tie
 
 returns : tie.Need-returns
-returns c = search arpc-made
+returns c = search (arpc-made, needs)
 
 pub arpc-for-spec : {M : Type 1} → statement M
 arpc-for-spec =

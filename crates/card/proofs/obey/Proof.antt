@@ -3,6 +3,10 @@ use borrow.Author.Needs.{needs}
 use Rattle.card.proofs.obey.Statement.{statement}
 use Rattle.card.proofs.obey.Tie as tie
 
+-- a counter that was raised can be lowered
+sub-n : tie.Need-sub-n
+sub-n c = search needs
+
 returns : tie.Need-returns
 returns c = search obey-full
 
@@ -24,6 +28,6 @@ obey-spec =
     (λ c κs. search needs)
     (λ c κs. search needs)
     returns-2
-    (λ c. search needs)
+    sub-n
     (λ c κs. search needs)
     returns-3)

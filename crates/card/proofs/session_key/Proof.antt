@@ -4,7 +4,7 @@ use Rattle.card.proofs.session_key.Statement.{statement}
 use Rattle.card.proofs.session_key.Tie as tie
 
 returns : tie.Need-returns
-returns c = search key-session
+returns c = search (key-session, needs)
 
 pub session-key-spec : {M : Type 1} → statement M
 session-key-spec = tie.close (tie.spec (λ c. search needs) (λ c κs. search needs) returns)

@@ -4,7 +4,7 @@ use Rattle.card.proofs.smc_key.Statement.{statement}
 use Rattle.card.proofs.smc_key.Tie as tie
 
 returns : tie.Need-returns
-returns c = search key-smc
+returns c = search (key-smc, needs)
 
 pub smc-key-spec : {M : Type 1} → statement M
 smc-key-spec =

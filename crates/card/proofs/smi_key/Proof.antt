@@ -4,7 +4,7 @@ use Rattle.card.proofs.smi_key.Statement.{statement}
 use Rattle.card.proofs.smi_key.Tie as tie
 
 returns : tie.Need-returns
-returns c = search key-smi
+returns c = search (key-smi, needs)
 
 pub smi-key-spec : {M : Type 1} → statement M
 smi-key-spec =

@@ -15,7 +15,7 @@ unfolding byNumber no
 returns c =
     let x = c .before .before .before .before .before .before .args in
     let o = now (x .out) in
-    let e : kindOf (x .kind) ≡ Unknown = sym (c .before .before .kind-of .ensures) ∙ c .enum-told .given .1 in
+    let e : kindOf (x .kind) ≡ Unknown = sym (c .before .before .kind-of .ensures .is) ∙ c .enum-told .given .1 in
     subst (λ (k : KindRead). GivenAnswer (byNumber (now (x .key)) k (x .counter) (now (x .d))) o 1 o) (sym e) (given-one 8 _ o)
 
 returns-2 : tie.Need-returns-2
@@ -24,7 +24,7 @@ returns-2 c =
     let x = c .before .before .before .before .before .before .before .before .before .before .before .before .before .before .args in
     let r = c .before .before .before .before .before .before .before .before .read .given in
     let k = c .before .before .before .before .before .before .cryptogram in
-    let e : kindOf (x .kind) ≡ Known (r .0 .0) = sym (c .before .before .before .before .before .before .before .before .before .before .kind-of .ensures) ∙ r .1 in
+    let e : kindOf (x .kind) ≡ Known (r .0 .0) = sym (c .before .before .before .before .before .before .before .before .before .before .kind-of .ensures .is) ∙ r .1 in
     subst (λ (j : KindRead). GivenAnswer (byNumber (now (x .key)) j (x .counter) (now (x .d))) (now (x .out)) (c .before .before .give .result) (c .before .before .give .last .1 .1 .0)) (sym e)
     (given (λ (a : Answer). a .code) (λ (a : Answer). a .bytes) 8 (k .ensures) (search needs) (c .before .before .give .ensures))
 

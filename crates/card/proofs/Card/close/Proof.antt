@@ -1,10 +1,10 @@
-use Rattle.card.proofs.CallLaws.{close-unsound, close-idle, close-spoilt, close-done}
+use Rattle.card.proofs.CallLaws.{unsound, close-idle, close-spoilt, close-done}
 use borrow.Author.Needs.{needs}
 use Rattle.card.proofs.Card.close.Statement.{statement}
 use Rattle.card.proofs.Card.close.Tie as tie
 
 returns : tie.Need-returns
-returns c = search close-unsound
+returns c = search unsound
 
 returns-2 : tie.Need-returns-2
 returns-2 c = search close-idle

@@ -1,10 +1,10 @@
-use Rattle.card.proofs.CallLaws.{counters-unsound, counters-idle, counters-done}
+use Rattle.card.proofs.CallLaws.{unsound, counters-idle, counters-done}
 use borrow.Author.Needs.{needs}
 use Rattle.card.proofs.Card.counter_block.Statement.{statement}
 use Rattle.card.proofs.Card.counter_block.Tie as tie
 
 returns : tie.Need-returns
-returns c = search counters-unsound
+returns c = search unsound
 
 returns-2 : tie.Need-returns-2
 returns-2 c = search counters-idle

@@ -1,10 +1,10 @@
-use Rattle.card.proofs.CallLaws.{answer-unsound, answer-phase, answer-arpc, answer-csu, answer-differs, answer-done}
+use Rattle.card.proofs.CallLaws.{unsound, answer-phase, answer-arpc, answer-csu, answer-differs, answer-done}
 use borrow.Author.Needs.{needs}
 use Rattle.card.proofs.Card.issuer_answer.Statement.{statement}
 use Rattle.card.proofs.Card.issuer_answer.Tie as tie
 
 returns : tie.Need-returns
-returns c = search answer-unsound
+returns c = search unsound
 
 returns-2 : tie.Need-returns-2
 returns-2 c = search answer-phase

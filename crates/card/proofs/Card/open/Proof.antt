@@ -1,10 +1,10 @@
-use Rattle.card.proofs.CallLaws.{open-unsound, open-busy, open-input, open-atc, open-session, open-done}
+use Rattle.card.proofs.CallLaws.{unsound, open-busy, open-input, open-atc, open-session, open-done}
 use borrow.Author.Needs.{needs}
 use Rattle.card.proofs.Card.open.Statement.{statement}
 use Rattle.card.proofs.Card.open.Tie as tie
 
 returns : tie.Need-returns
-returns c = search open-unsound
+returns c = search unsound
 
 returns-2 : tie.Need-returns-2
 returns-2 c = search open-busy

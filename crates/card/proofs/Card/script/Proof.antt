@@ -1,10 +1,10 @@
-use Rattle.card.proofs.CallLaws.{script-unsound, script-idle, script-on}
+use Rattle.card.proofs.CallLaws.{unsound, script-idle, script-on}
 use borrow.Author.Needs.{needs}
 use Rattle.card.proofs.Card.script.Statement.{statement}
 use Rattle.card.proofs.Card.script.Tie as tie
 
 returns : tie.Need-returns
-returns c = search script-unsound
+returns c = search unsound
 
 returns-2 : tie.Need-returns-2
 returns-2 c = search script-idle

@@ -1,10 +1,10 @@
-use Rattle.card.proofs.CallLaws.{withdraw-unsound, withdraw-done}
+use Rattle.card.proofs.CallLaws.{unsound, withdraw-done}
 use borrow.Author.Needs.{needs}
 use Rattle.card.proofs.Card.withdraw.Statement.{statement}
 use Rattle.card.proofs.Card.withdraw.Tie as tie
 
 returns : tie.Need-returns
-returns c = search withdraw-unsound
+returns c = search unsound
 
 returns-2 : tie.Need-returns-2
 returns-2 c = search withdraw-done

@@ -14,15 +14,20 @@ void bench_hash(const uint8_t *message, size_t message_length, uint8_t *out, siz
 void bench_derive_kept(const uint8_t *key, size_t key_length, const uint8_t *seeds, size_t seeds_length, uint8_t *out, size_t out_length);
 
 enum { KEY = 32, BLOCK = 8, CODE = 4, HASH = 32, SEED = 8, STRING = 16, DATA = 8, MESSAGE = DATA + 8, STRIDE = 64 };
-enum { LARGEST_TEXT = 65536, CODED = 272 };
+enum { LARGEST_TEXT = 65536, CODED = 272, ANSWER = 8, CSU = 4, OPENING = 65, STRING_OF_OPENING = 72, CARD = 21 };
 
 static const char SET_Z[] = "1.2.643.7.1.2.5.1.1";
 static const uint8_t HEADER[4] = {0x84, 0x24, 0x00, 0x02};
 static const uint8_t TAG = 0x87;
 
 static _Alignas(STRIDE) uint8_t pool[LARGEST_TEXT + TURNS * STRIDE];
-static uint8_t keys[TURNS][KEY];
+static uint8_t keys[TURNS + 1][KEY]; /* a PIN change takes the next one for SMC */
 static uint8_t messages[TURNS][MESSAGE];
+static uint8_t counters[KEPT * SEED]; /* the seeds of session keys for cryptograms */
+static uint8_t day[CARDS * CARD];
+static struct {
+    uint8_t cryptograms[KEPT * SEED], messages[KEPT][MESSAGE];
+} changes[TURNS];
 
 static gcry_cipher_hd_t cipher;
 static gcry_mac_hd_t imit, hmac;
@@ -62,6 +67,41 @@ static void box_message(const struct input *in, uint8_t *out) {
 
 static void box_opened(const struct input *in, uint8_t *out) {
     must(box_open(in->key, KEY, HEADER, sizeof HEADER, in->text, in->length, out, 3) == 0, "box_open");
+}
+
+/* Whole operations, KEPT of them under a master key that is kept. The counter of operation i is i + 1. */
+
+static void box_session(const struct input *in, uint8_t *out) {
+    bench_derive_kept(in->key, KEY, counters, sizeof counters, out, KEPT * KEY);
+}
+
+static void box_opening(const struct input *in, uint8_t *out) {
+    uint8_t session[KEPT * KEY];
+    box_session(in, session);
+    for (size_t i = 0; i < KEPT; i++)
+        must(box_cryptogram(session + i * KEY, KEY, 0x80, (uint16_t)(i + 1), in->text, OPENING, out + i * ANSWER, ANSWER) == 0, "box_cryptogram");
+}
+
+static void box_answer(const struct input *in, uint8_t *out) {
+    uint8_t session[KEPT * KEY];
+    box_session(in, session);
+    for (size_t i = 0; i < KEPT; i++)
+        must(box_arpc(session + i * KEY, KEY, in->text, ANSWER, in->text + ANSWER, CSU, out + i * ANSWER, ANSWER) == 0, "box_arpc");
+}
+
+static void box_change(const struct input *in, uint8_t *out) {
+    uint8_t smi[KEPT * KEY], smc[KEPT * KEY], found[3];
+    bench_derive_kept(in->key, KEY, in->text, KEPT * SEED, smi, sizeof smi);
+    bench_derive_kept(in->key + KEY, KEY, in->text, KEPT * SEED, smc, sizeof smc);
+    for (size_t i = 0; i < KEPT; i++) {
+        const uint8_t *message = in->text + KEPT * SEED + i * MESSAGE;
+        must(box_open(smi + i * KEY, KEY, HEADER, sizeof HEADER, message, MESSAGE, found, sizeof found) == 0, "box_open");
+        must(box_decipher(smc + i * KEY, KEY, message + found[1], found[2], out + i * BLOCK, BLOCK) == 0, "box_decipher");
+    }
+}
+
+static void box_day(const struct input *in, uint8_t *out) {
+    must(box_card_keys(in->key, KEY, in->text, in->length, out, CARDS * KEY) == 0, "box_card_keys");
 }
 
 /* The string whose HMAC is the derived key: 01, the label, 00, the seed, 01, 00. */
@@ -153,6 +193,81 @@ static void gcrypt_opened(const struct input *in, uint8_t *out) {
     out[2] = in->text[1];
 }
 
+/* The same whole operations in C. The HMAC's key is set once: a reset puts back what the key alone left. */
+
+static void gcrypt_next_key(const uint8_t *seed, uint8_t *out) {
+    must(gcry_mac_reset(hmac) == 0, "gcry_mac_reset");
+    gcrypt_derived(seed, out);
+}
+
+static void gcrypt_code_twice(const uint8_t *key, const uint8_t *string, uint8_t *out) {
+    gcrypt_code(key, string, STRING_OF_OPENING, out);
+    memcpy(out + CODE, out, CODE);
+}
+
+static void gcrypt_opening(const struct input *in, uint8_t *out) {
+    uint8_t key[KEY], string[STRING_OF_OPENING] = {0};
+    must(gcry_mac_setkey(hmac, in->key, KEY) == 0, "gcry_mac_setkey");
+    for (size_t i = 0; i < KEPT; i++) {
+        gcrypt_next_key(counters + i * SEED, key);
+        memcpy(string, in->text, OPENING);
+        string[31] = (uint8_t)((i + 1) >> 8);
+        string[32] = (uint8_t)(i + 1);
+        string[36] = (uint8_t)(0xa0 + string[36] % 16);
+        string[OPENING] = 0x80;
+        gcrypt_code_twice(key, string, out + i * ANSWER);
+    }
+}
+
+static void gcrypt_answer(const struct input *in, uint8_t *out) {
+    uint8_t key[KEY], string[STRING_OF_OPENING] = {0};
+    must(gcry_mac_setkey(hmac, in->key, KEY) == 0, "gcry_mac_setkey");
+    for (size_t i = 0; i < KEPT; i++) {
+        gcrypt_next_key(counters + i * SEED, key);
+        memcpy(string, in->text, ANSWER + CSU);
+        string[16] = 0x80;
+        gcrypt_code_twice(key, string, out + i * ANSWER);
+    }
+}
+
+/* One kept key after the other. */
+static void gcrypt_change(const struct input *in, uint8_t *out) {
+    static uint8_t smi[KEPT][KEY], smc[KEPT][KEY];
+    must(gcry_mac_setkey(hmac, in->key, KEY) == 0, "gcry_mac_setkey");
+    for (size_t i = 0; i < KEPT; i++) gcrypt_next_key(in->text + i * SEED, smi[i]);
+    must(gcry_mac_setkey(hmac, in->key + KEY, KEY) == 0, "gcry_mac_setkey");
+    for (size_t i = 0; i < KEPT; i++) gcrypt_next_key(in->text + i * SEED, smc[i]);
+    for (size_t i = 0; i < KEPT; i++) {
+        const uint8_t *message = in->text + KEPT * SEED + i * MESSAGE;
+        uint8_t code[CODE];
+        must(shaped(message), "shape");
+        message_code(smi[i], message, code);
+        must(memcmp(code, message + MESSAGE - CODE, CODE) == 0, "code");
+        must(gcry_cipher_setkey(cipher, smc[i], KEY) == 0, "gcry_cipher_setkey");
+        must(gcry_cipher_decrypt(cipher, out + i * BLOCK, BLOCK, message + 2, BLOCK) == 0, "gcry_cipher_decrypt");
+    }
+}
+
+/* The seed of a card: the last sixteen digits of card number and sequence number, a byte a pair. */
+static void card_seed(const uint8_t *card, uint8_t seed[SEED]) {
+    uint8_t digits[32] = {0}, *end = digits + 12 + card[0];
+    must(card[0] >= 12 && card[0] <= 19 && card[CARD - 1] <= 99, "card");
+    for (size_t i = 1; i <= card[0]; i++) must(card[i] <= 9, "digit");
+    memcpy(end - card[0], card + 1, card[0]);
+    end[0] = card[CARD - 1] / 10;
+    end[1] = card[CARD - 1] % 10;
+    for (size_t i = 0; i < SEED; i++) seed[i] = (uint8_t)(10 * end[2 * i - 14] + end[2 * i - 13]);
+}
+
+static void gcrypt_day(const struct input *in, uint8_t *out) {
+    uint8_t seed[SEED];
+    must(gcry_mac_setkey(hmac, in->key, KEY) == 0, "gcry_mac_setkey");
+    for (size_t i = 0; i < CARDS; i++) {
+        card_seed(in->text + i * CARD, seed);
+        gcrypt_next_key(seed, out + i * KEY);
+    }
+}
+
 /* nettle */
 
 static void nettle_derived(struct hmac_streebog256_ctx *context, const uint8_t *seed, uint8_t *out) {
@@ -204,10 +319,39 @@ static void start_gcrypt(void) {
     must(gcry_mac_ctl(imit, GCRYCTL_SET_SBOX, (void *)SET_Z, 0) == 0, "substitution of the code");
 }
 
+static void start_day(void) {
+    fill(day, sizeof day);
+    for (uint8_t *card = day; card < day + sizeof day; card += CARD) {
+        for (size_t i = 1; i < CARD - 1; i++) card[i] %= 10;
+        card[0] = (uint8_t)(12 + card[0] % 8);
+        card[CARD - 1] %= 100;
+    }
+}
+
+static void start_changes(size_t turn) {
+    uint8_t key[KEY], block[BLOCK];
+    const uint8_t *pin = pool + turn * STRIDE;
+    fill(changes[turn].cryptograms, sizeof changes[turn].cryptograms);
+    for (size_t i = 0; i < KEPT; i++) {
+        const uint8_t *cryptogram = changes[turn].cryptograms + i * SEED;
+        must(box_script_key(keys[turn + 1], KEY, cryptogram, SEED, key, KEY) == 0, "box_script_key");
+        must(box_encipher(key, KEY, pin, BLOCK, block, BLOCK) == 0, "box_encipher");
+        must(box_script_key(keys[turn], KEY, cryptogram, SEED, key, KEY) == 0, "box_script_key");
+        must(box_wrap(key, KEY, HEADER, sizeof HEADER, TAG, block, BLOCK, changes[turn].messages[i], MESSAGE, 0) == 0, "box_wrap");
+    }
+}
+
 void rows_start(void) {
     start_gcrypt();
     fill(pool, sizeof pool);
     fill(keys[0], sizeof keys);
+    start_day();
+    for (size_t i = 0; i < KEPT; i++) {
+        counters[i * SEED] = (uint8_t)((i + 1) >> 8);
+        counters[i * SEED + 1] = (uint8_t)(i + 1);
+        counters[i * SEED + 2] = 0xf0;
+    }
+    for (size_t turn = 0; turn < TURNS; turn++) start_changes(turn);
     for (size_t turn = 0; turn < TURNS; turn++) {
         struct input in = {keys[turn], pool + turn * STRIDE, DATA};
         box_message(&in, messages[turn]);
@@ -217,10 +361,13 @@ void rows_start(void) {
 struct input row_input(const struct row *row, size_t turn) {
     struct input in = {keys[turn], pool + turn * STRIDE, row->length};
     if (row->by[BOX] == box_opened) in.text = messages[turn];
+    if (row->by[BOX] == box_change) in.text = changes[turn].cryptograms;
+    if (row->by[BOX] == box_day) in.text = day;
     return in;
 }
 
 #define HASH_OF(n) {"hash of " #n " bytes", "the whole hash", n, HASH, 1, {box_hash, gcrypt_hash, nettle_hash}}
+#define WHOLE(name, counted, length, box, gcrypt) {name, counted, length, KEPT * ANSWER, KEPT, {box, gcrypt, NULL}}
 #define CODE_OF(n) {"code of " #n " bytes", "key set-up, the code", n, CODE, 1, {box_string, gcrypt_string, NULL}}
 
 const struct row rows[] = {
@@ -236,6 +383,10 @@ const struct row rows[] = {
     CODE_OF(272),
     {"wrap 8 bytes", "key set-up, code of 272 bytes, the message", DATA, MESSAGE, 1, {box_message, gcrypt_message, NULL}},
     {"open a message of 8 bytes", "key set-up, shape, code of 272 bytes", MESSAGE, 3, 1, {box_opened, gcrypt_opened, NULL}},
+    WHOLE("Open", "session key under a kept key, cryptogram", OPENING, box_opening, gcrypt_opening),
+    WHOLE("issuer's answer", "session key under a kept key, ARPC", ANSWER + CSU, box_answer, gcrypt_answer),
+    WHOLE("PIN change, checked and deciphered", "two session keys under kept keys, code of 272 bytes, block", sizeof changes[0], box_change, gcrypt_change),
+    {"a day's cards, each of 10000", "one set-up; seed and key of each card", sizeof day, CARDS * KEY, CARDS, {box_day, gcrypt_day, NULL}},
 };
 
 const size_t row_count = sizeof rows / sizeof rows[0];

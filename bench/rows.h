@@ -6,7 +6,7 @@
 #include <stdint.h>
 
 enum { BOX, GCRYPT, NETTLE, DOERS };
-enum { TURNS = 16, KEPT = 256, LARGEST_OUT = 32 * KEPT };
+enum { TURNS = 16, KEPT = 256, CARDS = 10000, LARGEST_OUT = 32 * CARDS };
 
 struct input {
     const uint8_t *key, *text;

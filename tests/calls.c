@@ -37,6 +37,7 @@ static uint8_t code(struct argument *a) { return box_code(S(0), S(1), S(2)); }
 static uint8_t derive(struct argument *a) { return box_derive(S(0), S(1), S(2)); }
 static uint8_t card_key(struct argument *a) { return box_card_key(S(0), S(1), BYTE(2), S(3)); }
 static uint8_t card_key_packed(struct argument *a) { return box_card_key_packed(S(0), S(1), BYTE(2), S(3)); }
+static uint8_t card_keys(struct argument *a) { return box_card_keys(S(0), S(1), S(2)); }
 static uint8_t session_key(struct argument *a) { return box_session_key(S(0), COUNTER(1), S(2)); }
 static uint8_t script_key(struct argument *a) { return box_script_key(S(0), S(1), S(2)); }
 static uint8_t counter_key(struct argument *a) { return box_counter_key(S(0), S(1)); }
@@ -62,6 +63,7 @@ static const struct function functions[] = {
     {"box_derive", "sso", {1}, derive},
     {"box_card_key", "ssno", {1, 2}, card_key},
     {"box_card_key_packed", "ssno", {1, 2}, card_key_packed},
+    {"box_card_keys", "sso", {1, 2}, card_keys},
     {"box_session_key", "sno", {1}, session_key},
     {"box_script_key", "sso", {1}, script_key},
     {"box_counter_key", "so", {1}, counter_key},

@@ -106,6 +106,35 @@ static void of_card(card *f, const char *name) {
     back(o, 0, r == 0 ? o.length : 0, name);
 }
 
+/* Many cards: each key is that of box_card_key; one wrong card, or a wrong length, and nothing is written. */
+static void of_cards(void) {
+    size_t count = any() % 5, i, j;
+    struct lent a = lend(length_near(32)), b = lend(any() % 12 == 0 ? 21 * count + 1 : 21 * count), o = lend(any() % 12 == 0 ? 32 * count + 1 : 32 * count);
+    uint8_t r, wanted = 0, key[32];
+    for (i = 0; i < count; i++) {
+        uint8_t *card = b.room + MARGIN + 21 * i;
+        card[0] = any() % 20 == 0 ? (uint8_t)any() : (uint8_t)(12 + any() % 8);
+        for (j = 1; j < 20; j++)
+            if (j <= card[0]) card[j] %= any() % 300 == 0 ? 12 : 10;
+        if (any() % 10 != 0) card[20] %= 100;
+        for (j = 1; j < 20; j++)
+            if (j <= card[0] && card[j] > 9) wanted = 2;
+        if (card[0] < 12 || card[0] > 19 || card[20] > 99) wanted = 2;
+    }
+    keep(&b);
+    if (a.length != 32 || b.length % 21 != 0 || o.length != 32 * count) wanted = 1;
+    r = box_card_keys(a.at, a.length, b.at, b.length, o.at, o.length);
+    expect(r, wanted, "box_card_keys");
+    for (i = 0; r == 0 && i < count; i++) {
+        const uint8_t *card = b.at + 21 * i;
+        expect(box_card_key(a.at, 32, card + 1, card[0], card[20], key, 32), 0, "box_card_key");
+        if (memcmp(o.at + 32 * i, key, 32) != 0) fail("box_card_keys: not the card's key");
+    }
+    back(a, 0, 0, "box_card_keys");
+    back(b, 0, 0, "box_card_keys");
+    back(o, 0, r == 0 ? o.length : 0, "box_card_keys");
+}
+
 static void of_keys(void) {
     struct lent a = lend(length_near(32)), o = lend(length_near(32)), p = lend(length_near(4));
     uint16_t counter = (uint16_t)any();
@@ -396,6 +425,7 @@ int main(void) {
         of_two(box_script_key, 8, 0, 32, "box_script_key");
         of_card(box_card_key, "box_card_key");
         of_card(box_card_key_packed, "box_card_key_packed");
+        of_cards();
         of_keys();
         of_pin();
         of_cryptogram();

@@ -36,13 +36,14 @@ const fn function(name: &'static str, takes: &'static str) -> Function {
 }
 
 /// The functions of box.h.
-const LIBRARY: [Function; 16] = [
+const LIBRARY: [Function; 17] = [
     function("box_encipher", "sso"),
     function("box_decipher", "sso"),
     function("box_code", "sso"),
     function("box_derive", "sso"),
     function("box_card_key", "ssbo"),
     function("box_card_key_packed", "ssbo"),
+    function("box_card_keys", "sso"),
     function("box_session_key", "swo"),
     function("box_script_key", "sso"),
     function("box_counter_key", "so"),
@@ -102,6 +103,19 @@ fn value(name: &str, given: &Given, room: usize) -> Result<Vec<u8>, Refusal> {
             fits(32)?;
             let make = if name == "box_card_key" { card_key } else { card_key_packed };
             Ok(make(&issuer, given.text(1), given.byte(2))?.to_vec())
+        }
+        "box_card_keys" => {
+            let (issuer, cards) = (given.array(0)?, given.text(1).chunks_exact(21));
+            if !cards.remainder().is_empty() {
+                return Err(Refusal::Range);
+            }
+            fits(32 * cards.len())?;
+            let mut keys = Vec::new();
+            for card in cards {
+                let pan = card[1..20].get(..card[0] as usize).ok_or(Refusal::Card)?;
+                keys.extend(card_key(&issuer, pan, card[20])?);
+            }
+            Ok(keys)
         }
         "box_session_key" => fits(32).and(Ok(session_key(&given.array(0)?, given.counter(1)).to_vec())),
         "box_script_key" => fits(32).and(Ok(script_key(&given.array(0)?, &given.array(1)?).to_vec())),
@@ -237,6 +251,10 @@ impl Caller {
         match function.name {
             "box_code" => vec![self.text(32), self.string(), self.lent(4)],
             "box_card_key" | "box_card_key_packed" => vec![self.text(32), self.card_number(), self.sequence(), self.lent(32)],
+            "box_card_keys" => {
+                let count = self.random.below(5);
+                vec![self.text(32), self.cards(count), self.lent(32 * count)]
+            }
             "box_session_key" => vec![self.text(32), self.counter(), self.lent(32)],
             "box_derive" | "box_script_key" => vec![self.text(32), self.text(8), self.lent(32)],
             "box_counter_key" => vec![self.text(32), self.lent(32)],
@@ -313,6 +331,27 @@ impl Caller {
         let mut digits = self.random.digits(count);
         self.damage_digit(&mut digits);
         self.given(digits)
+    }
+
+    /// Cards of 21 bytes: mostly 12 to 19 digits, any bytes after them, and a sequence number; at times one of another form, or a byte too few.
+    fn cards(&mut self, count: usize) -> Argument {
+        let mut cards = Vec::new();
+        for _ in 0..count {
+            let number = if self.random.once_in(12) { self.random.below(256) } else { self.random.within(12, 19) };
+            let mut card = self.random.bytes(21);
+            let mut digits = self.random.digits(number.min(19));
+            if self.random.once_in(8) {
+                self.damage_digit(&mut digits);
+            }
+            card[0] = number as u8;
+            card[1..=digits.len()].copy_from_slice(&digits);
+            card[20] = if self.random.once_in(12) { 100 } else { self.random.below(100) as u8 };
+            cards.extend(card);
+        }
+        if self.random.once_in(12) {
+            cards.pop();
+        }
+        self.given(cards)
     }
 
     fn pin(&mut self) -> Argument {
@@ -441,7 +480,7 @@ mod tests {
         let mut caller = Caller::new(1);
         for i in 0..500 {
             let line = caller.call(i);
-            assert_eq!(check(&line), Ok(LIBRARY[i % 16].name));
+            assert_eq!(check(&line), Ok(LIBRARY[i % 17].name));
         }
     }
 

@@ -17,7 +17,7 @@ use Rattle.lps.proofs.Bytes.{length-bytes, octets-bytes}
 use Rattle.hash.specs.declared.Core.{Core}
 use Rattle.hash.specs.declared.State.{State}
 use Rattle.rounds.specs.Sums.{vec}
-use Rattle.rounds.specs.Rounds.{g}
+use Rattle.rounds.specs.Rounds.{gOver, g}
 use Rattle.hash.specs.Hash.{start, step, advanced, padded, closed, finished, hash256}
 use Rattle.hash.specs.States.{filled, stateOf, held, begun, fed, ended}
 
@@ -52,7 +52,7 @@ ended-fed m =
     (core-stateOf start []) (held-stateOf start [] (lit< tt))
 
 length-g : (n h m : List ℕ) → length (g n h m) ≡ 8
-unfolding g X
+unfolding g gOver X
 length-g n h m = refl
 
 -- the vector whose upper half is the hash

@@ -7,14 +7,16 @@ ghost use lib.Seq.{paste};
 ghost use Rattle.octets.specs.Numbers.{le};
 ghost use Rattle.blocks.specs.Blocks.{absorbed};
 ghost use Rattle.lps.specs.Vectors.{words, bytes};
+ghost use Rattle.rounds.specs.Rounds.{constants};
 ghost use Rattle.hash.specs.Hash.{advanced, step, padded as paddedTo, closed as closedOf, hash256};
 ghost use Rattle.hash.specs.States.{begun, fed, ended};
 ghost use Rattle.hash.specs.Ahead.{aheadOf, advancedBy, endedAhead};
 use octets::octet;
 use rounds::add;
-use rounds::compress;
 use rounds::compress_block;
+use rounds::compress_over;
 use rounds::compress_with;
+use rounds::iteration_constants;
 use rounds::round_keys;
 
 // What the whole blocks so far have made: h, and the numbers N and Sigma.
@@ -102,15 +104,37 @@ fn advance(c: Core, bits: u64, m: [u64; 8]) -> Core
     }
 }
 
+// The same over the constants, which are made once for many blocks.
+fn advance_over(cs: &[[u64; 8]], c: Core, bits: u64, m: [u64; 8]) -> Core
+    requires { ⌜ now cs ≡ constants ⌝ }
+    ensures { λ r. ⌜ r ≡ advanced c bits m ⌝ }
+{
+    let h = c.h;
+    let n = c.n;
+    let sigma = c.sigma;
+    let h2 = compress_over(cs, n, h, m);
+    let n2 = add(n, [bits, 0, 0, 0, 0, 0, 0, 0]);
+    let s2 = add(sigma, m);
+    Core {
+        h: h2,
+        n: n2,
+        sigma: s2,
+    }
+}
+
 // The whole blocks of m from a place on.
 fn absorb(c: Core, m: &[u8], from: usize) -> Core
     requires { ⌜ from ≤ length (now m) ⌝ }
     ensures { λ r. ⌜ r ≡ absorbed 64 step c (drop from (now (m .entry))) ⌝ }
 {
+    if m.len() - from < 64 {
+        return c;
+    }
+    let cs = iteration_constants();
     let mut core = c;
     let mut p = from;
     while 64 <= m.len() - p {
-        core = advance(core, 512, load(m, p));
+        core = advance_over(&cs, core, 512, load(m, p));
         p += 64;
     }
     core
@@ -205,7 +229,8 @@ fn close(c: Core) -> [u8; 32]
     let h = c.h;
     let n = c.n;
     let sigma = c.sigma;
-    upper(compress([0; 8], compress([0; 8], h, n), sigma))
+    let cs = iteration_constants();
+    upper(compress_over(&cs, [0; 8], compress_over(&cs, [0; 8], h, n), sigma))
 }
 
 // The hash of all the bytes fed.

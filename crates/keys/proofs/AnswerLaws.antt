@@ -14,9 +14,10 @@ use Rattle.cipher.proofs.AnswerLaws.{fits as block-fits}
 use Rattle.hash.specs.Hash.{hash256}
 use Rattle.derive.specs.Answers.{noKey, yes, derivation}
 use Rattle.derive.proofs.Laws.{fits}
-use Rattle.keys.specs.CardNumber.{cardFits}
+use Rattle.keys.specs.declared.SeedAnswer.{SeedAnswer}
+use Rattle.keys.specs.CardNumber.{cardFits, Y}
 use Rattle.keys.specs.Seeds.{idnBlock}
-use Rattle.keys.specs.Answers.{cardAnswer, counterKey, idn, noIdn, idnAnswer}
+use Rattle.keys.specs.Answers.{cardAnswer, seedAnswer, counterKey, idn, noIdn, idnAnswer}
 
 module _ (key pan : List ℕ) (q : ℕ) (y : List ℕ) where
   pub card-no-key : (length key ≡ 32 → ⊥) → noKey 1 ≡ cardAnswer key pan q y
@@ -30,6 +31,15 @@ module _ (key pan : List ℕ) (q : ℕ) (y : List ℕ) where
   pub card-yes : length key ≡ 32 → (t : Bool) → t ≡ cardFits pan q → not t ≡ false → length y ≡ 8 → derivation key y ≡ cardAnswer key pan q y
   unfolding cardAnswer keyFits
   card-yes h t e n l = sym (fits key y h l) ∙ sym (simp (eq-eqb _ _ h, sym e ∙ not-false t n))
+
+module _ (pan : List ℕ) (q : ℕ) (t : Bool) (e : t ≡ cardFits pan q) where
+  pub seed-no : not t ≡ true → _≡_ {A = SeedAnswer} (record { code = 2; bytes = replicate 8 0 }) (seedAnswer pan q)
+  unfolding seedAnswer
+  seed-no n = simp (sym e ∙ not-true t n)
+
+  pub seed-yes : not t ≡ false → (y : List ℕ) → y ≡ Y pan q → _≡_ {A = SeedAnswer} (record { code = 0; bytes = y }) (seedAnswer pan q)
+  unfolding seedAnswer
+  seed-yes n y f = ap {B = SeedAnswer} (λ (x : List ℕ). record { code = 0; bytes = x }) f ∙ sym (simp (sym e ∙ not-false t n))
 
 pub counter-no-key : (key : List ℕ) → (length key ≡ 32 → ⊥) → noKey 1 ≡ counterKey key
 unfolding counterKey keyFits

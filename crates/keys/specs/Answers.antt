@@ -11,6 +11,7 @@ use Rattle.derive.specs.declared.KeyAnswer.{KeyAnswer}
 use Rattle.derive.specs.Derivation.{derived, cardLabel}
 use Rattle.derive.specs.Answers.{noKey, yes, derivation}
 use Rattle.keys.specs.declared.IdnAnswer.{IdnAnswer}
+use Rattle.keys.specs.declared.SeedAnswer.{SeedAnswer}
 use Rattle.keys.specs.CardNumber.{cardFits, Y, packedY}
 use Rattle.keys.specs.Seeds.{sessionSeed, idnBlock}
 
@@ -24,6 +25,10 @@ cardKey key pan sequence = cardAnswer key pan sequence (Y pan sequence)
 
 unfoldable pub cardKeyPacked : List ℕ → List ℕ → ℕ → KeyAnswer
 cardKeyPacked key pan sequence = cardAnswer key pan sequence (packedY pan sequence)
+
+-- the seed alone; 2 for the card
+unfoldable pub seedAnswer : List ℕ → ℕ → SeedAnswer
+seedAnswer pan sequence = cond (cardFits pan sequence) (record { code = 0; bytes = Y pan sequence }) (record { code = 2; bytes = replicate 8 0 })
 
 -- 003, 4.2.1: for cryptograms, from the transaction counter
 unfoldable pub sessionKey : List ℕ → ℕ → KeyAnswer

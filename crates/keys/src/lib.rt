@@ -7,11 +7,17 @@ ghost use lib.ListN.{length, getD, take, replicate};
 ghost use Rattle.octets.specs.Digits.{digits};
 ghost use Rattle.octets.specs.Digits.{pairs};
 ghost use Rattle.keys.specs.CardNumber.{cardFits, X, sixteen as lastSixteen};
-ghost use Rattle.keys.specs.Answers.{cardAnswer, cardKey, cardKeyPacked, sessionKey, scriptKey, counterKey, idnAnswer};
+ghost use Rattle.keys.specs.Answers.{cardAnswer, cardKey, cardKeyPacked, seedAnswer, sessionKey, scriptKey, counterKey, idnAnswer};
 use derive::KeyAnswer;
 
 // An IDN in the first places, zeros in the others; or a refusal's number and zeros.
 pub struct IdnAnswer {
+    pub code: u8,
+    pub bytes: [u8; 8],
+}
+
+// The seed of a card master key; or a refusal's number and zeros.
+pub struct SeedAnswer {
     pub code: u8,
     pub bytes: [u8; 8],
 }
@@ -118,6 +124,20 @@ pub fn card_key_packed(issuer: &[u8], pan: &[u8], sequence: u8) -> KeyAnswer
     ensures { λ r. ⌜ r ≡ cardKeyPacked (now (issuer .entry)) (now (pan .entry)) sequence ⌝ }
 {
     card_key_by(16, issuer, pan, sequence)
+}
+
+// The seed Y of a card's master keys, for whoever keeps the issuer's key; 2: the card.
+pub fn card_seed(pan: &[u8], sequence: u8) -> SeedAnswer
+    ensures { λ r. ⌜ r ≡ seedAnswer (now (pan .entry)) sequence ⌝ }
+{
+    if !card_fits(pan, sequence) {
+        return SeedAnswer {
+            code: 2,
+            bytes: [0; 8],
+        };
+    }
+    let bytes = pair_up(10, sixteen(pan, sequence));
+    SeedAnswer { code: 0, bytes }
 }
 
 // The session key for cryptograms, from the master key and the transaction counter.

@@ -2,4 +2,4 @@ pub mod Each
 pub mod Linear
 pub mod Bytes
 pub mod Words
-pub mod Added
+pub mod Columns

@@ -17,6 +17,7 @@ use Rattle.octets.proofs.Parts.{octets-test}
 use Rattle.octets.proofs.Xor.{xor-assoc}
 use Rattle.tables.specs.Tables.{pi, A}
 use Rattle.tables.specs.Matrix.{lin, l, entry}
+use Rattle.lps.specs.Inner.{looked}
 
 lin-split : (rs ss : List ℕ) (q b : ℕ) → b < 2 ^ length rs → lin (rs ++ ss) (q * 2 ^ length rs + b) ≡ bitXor (lin rs b) (lin ss q)
 unfolding lin
@@ -70,11 +71,6 @@ count = refl
 pi-octets : Octets pi
 unfolding pi
 pi-octets = octets-test pi tt
-
--- the words of the bytes of cs, from table j on, added to x
-abbrev pub looked : ℕ → ℕ → List ℕ → ℕ
-looked x j [] = x
-looked x j (c ∷ cs) = looked (bitXor x (entry j c)) (suc j) cs
 
 looked-lin : (cs : List ℕ) (x j : ℕ) → 8 * (j + length cs) ≤ 64
     → looked x j cs ≡ bitXor x (lin (drop (8 * j) (reverse A)) (le (map (λ c. getD pi c 0) cs)))

@@ -3,19 +3,19 @@ use mathlib.Core.Path.{_≡_, refl, sym, ap, _∙_}
 use mathlib.Core.List.{List, map}
 use Prim.Native.Nat.{ℕ, _*_, _<_}
 use native.Mathlib.Omega.{arith}
-use lib.ListN.{length, getD, take, drop, replicate}
+use lib.ListN.{length, getD, take, drop}
 use Rattle.octets.specs.Numbers.{le, leOctets}
 use Rattle.octets.proofs.Parts.{elements-part}
 use Rattle.tables.specs.Tables.{pi}
 use Rattle.tables.specs.Matrix.{l}
 use Rattle.lps.specs.Vectors.{each, bytes, words, S, P, L, LPS}
-use Rattle.lps.specs.Inner.{added}
-use Rattle.lps.proofs.Each.{each-equal}
-use Rattle.lps.proofs.Linear.{looked, looked-word}
+use Rattle.lps.specs.Inner.{looked}
+use Rattle.lps.proofs.Each.{each-equal, each-at}
+use Rattle.lps.proofs.Linear.{looked-word}
 use Rattle.lps.proofs.Bytes.{length-P, permuted-at}
 
 -- byte i of each word
-abbrev column : List ℕ → ℕ → List ℕ
+abbrev pub column : List ℕ → ℕ → List ℕ
 column a i = map (λ w. getD (leOctets 8 w) i 0) (each (λ j. getD a j 0))
 
 module _ (a : List ℕ) (n : length a ≡ 8) where
@@ -27,17 +27,11 @@ module _ (a : List ℕ) (n : length a ≡ 8) where
   word-at : (i : ℕ) → i < 8 → looked 0 0 (column a i) ≡ l (le (take 8 (drop (8 * i) (P (S (bytes a))))))
   word-at i h = looked-word (column a i) refl ∙ ap (λ (s : List ℕ). l (le s)) (sym (permuted-column i h))
 
-  pub lps-words : added 7 (getD a 7 0) (added 6 (getD a 6 0) (added 5 (getD a 5 0) (added 4 (getD a 4 0)
-      (added 3 (getD a 3 0) (added 2 (getD a 2 0) (added 1 (getD a 1 0) (added 0 (getD a 0 0) (replicate 8 0))))))))
-      ≡ LPS a
-  unfolding added LPS L words
-  lps-words = each-equal word-at
+  -- word i of LPS
+  pub lps-at : (i : ℕ) → i < 8 → getD (LPS a) i 0 ≡ looked 0 0 (column a i)
+  unfolding LPS L words
+  lps-at i h = each-at (λ i. l (le (take 8 (drop (8 * i) (P (S (bytes a))))))) i h ∙ sym (word-at i h)
 
-  -- the eight additions one after the other
-  pub lps-chain : {r₀ r₁ r₂ r₃ r₄ r₅ r₆ r₇ : List ℕ} → r₀ ≡ added 0 (getD a 0 0) (replicate 8 0) → r₁ ≡ added 1 (getD a 1 0) r₀
-      → r₂ ≡ added 2 (getD a 2 0) r₁ → r₃ ≡ added 3 (getD a 3 0) r₂ → r₄ ≡ added 4 (getD a 4 0) r₃ → r₅ ≡ added 5 (getD a 5 0) r₄
-      → r₆ ≡ added 6 (getD a 6 0) r₅ → r₇ ≡ added 7 (getD a 7 0) r₆ → r₇ ≡ LPS a
-  lps-chain e₀ e₁ e₂ e₃ e₄ e₅ e₆ e₇ =
-      e₇ ∙ ap (added 7 (getD a 7 0)) (e₆ ∙ ap (added 6 (getD a 6 0)) (e₅ ∙ ap (added 5 (getD a 5 0)) (e₄ ∙ ap (added 4 (getD a 4 0))
-      (e₃ ∙ ap (added 3 (getD a 3 0)) (e₂ ∙ ap (added 2 (getD a 2 0)) (e₁ ∙ ap (added 1 (getD a 1 0)) e₀))))))
-      ∙ lps-words
+pub length-LPS : (a : List ℕ) → length (LPS a) ≡ 8
+unfolding LPS L words
+length-LPS a = refl

@@ -1,126 +1,120 @@
-// The transformation LPS of GOST R 34.11-2012 (RFC 6986, section 7), by the eight tables of `tables`.
+// The transformation LPS of GOST R 34.11-2012 (RFC 6986, section 7), by the words of `tables`.
 //
-// One function a table, and one call of each: only so does LLVM put the table in place, unroll the loop and keep the vector in registers.
+// The shape is for the machine code. `word` is called at one place, so that its table stands in the code of `turn` once. The loop over the words of the answer stays a
+// loop: a byte is then the lowest of a register that is shifted by 8. Five words go so, and the bytes of the other three are read from memory: a processor has other
+// units for reads than for shifts.
 ghost use mathlib.Core.Path.{_≡_};
-ghost use Rattle.lps.specs.Vectors.{LPS};
-ghost use Rattle.lps.specs.Inner.{added};
-use octets::octet;
-use tables::table0;
-use tables::table1;
-use tables::table2;
-use tables::table3;
-use tables::table4;
-use tables::table5;
-use tables::table6;
-use tables::table7;
+ghost use mathlib.Core.Bool.{cond};
+ghost use Prim.Native.Nat.{_*_, _/_, _<_};
+ghost use lib.Dec.{ltb};
+ghost use lib.ListN.{length, getD, set};
+ghost use lib.Seq.{sets};
+ghost use Rattle.octets.specs.Numbers.{leOctets};
+ghost use Rattle.lps.specs.Vectors.{LPS, X};
+ghost use Rattle.lps.specs.Inner.{looked, byteAt, bytesAt, Eight, Shifted, Spread};
+use tables::word;
 
-// What the bytes of word 0 add to the eight words: byte i to word i. The others alike.
-fn add0(a: u64, r: [u64; 8]) -> [u64; 8]
-    ensures { λ s. ⌜ s ≡ added 0 a r ⌝ }
+// The eight bytes of a word, lowest first.
+fn bytes_of(w: u64) -> [u8; 8]
+    ensures { λ r. ⌜ r ≡ leOctets 8 w ⌝ }
 {
-    let mut s = r;
-    let mut i = 0;
-    while i < 8 {
-        s[i] = r[i] ^ table0(octet(a, i));
-        i += 1;
-    }
-    s
+    let w1 = w / 256;
+    let w2 = w1 / 256;
+    let w3 = w2 / 256;
+    let w4 = w3 / 256;
+    let w5 = w4 / 256;
+    let w6 = w5 / 256;
+    let w7 = w6 / 256;
+    [
+        (w % 256) as u8,
+        (w1 % 256) as u8,
+        (w2 % 256) as u8,
+        (w3 % 256) as u8,
+        (w4 % 256) as u8,
+        (w5 % 256) as u8,
+        (w6 % 256) as u8,
+        (w7 % 256) as u8,
+    ]
 }
 
-fn add1(a: u64, r: [u64; 8]) -> [u64; 8]
-    ensures { λ s. ⌜ s ≡ added 1 a r ⌝ }
+// X[a](b), its first five words, with a zero after each: side by side, LLVM would put the words into registers by twos.
+fn spread(a: &[u64; 8], b: &[u64; 8]) -> [u64; 10]
+    ensures { λ r. ⌜ Spread (X (now (a .entry)) (now (b .entry))) r ⌝ }
 {
-    let mut s = r;
-    let mut i = 0;
-    while i < 8 {
-        s[i] = r[i] ^ table1(octet(a, i));
-        i += 1;
-    }
-    s
+    [
+        a[0] ^ b[0],
+        0,
+        a[1] ^ b[1],
+        0,
+        a[2] ^ b[2],
+        0,
+        a[3] ^ b[3],
+        0,
+        a[4] ^ b[4],
+        0,
+    ]
 }
 
-fn add2(a: u64, r: [u64; 8]) -> [u64; 8]
-    ensures { λ s. ⌜ s ≡ added 2 a r ⌝ }
+// The lowest byte of word j of x, which loses it; after the fifth word, byte k of u, v or w.
+fn byte(x: &mut [u64; 10], u: &[u8], v: &[u8], w: &[u8], k: usize, j: usize) -> usize
+    requires { ⌜ (length (now x) ≡ 10) × Eight (now u) (now v) (now w) × (k < 8) × (j < 8) ⌝ }
+    ensures { λ r. ⌜
+        (r ≡ byteAt (now (x .entry)) (now (u .entry)) (now (v .entry)) (now (w .entry)) k j)
+        × (r < 256)
+        × (now (x .exit) ≡ cond (ltb j 5) (set (now (x .entry)) (2 * j) (getD (now (x .entry)) (2 * j) 0 / 256)) (now (x .entry)))
+        ⌝ }
 {
-    let mut s = r;
-    let mut i = 0;
-    while i < 8 {
-        s[i] = r[i] ^ table2(octet(a, i));
-        i += 1;
+    if j < 5 {
+        let a = x[2 * j];
+        let low = (a % 256) as usize;
+        x[2 * j] = a / 256;
+        return low;
     }
-    s
+    if j == 5 {
+        return u[k] as usize;
+    }
+    if j == 6 {
+        return v[k] as usize;
+    }
+    w[k] as usize
 }
 
-fn add3(a: u64, r: [u64; 8]) -> [u64; 8]
-    ensures { λ s. ⌜ s ≡ added 3 a r ⌝ }
+// The sum of what byte k of each word gives, through its table.
+fn column(x: &mut [u64; 10], u: &[u8], v: &[u8], w: &[u8], k: usize) -> u64
+    requires { ⌜ (length (now x) ≡ 10) × Eight (now u) (now v) (now w) × (k < 8) ⌝ }
+    ensures { λ r. ⌜
+        (r ≡ looked 0 0 (bytesAt (now (x .entry)) (now (u .entry)) (now (v .entry)) (now (w .entry)) k)) × Shifted (now (x .entry)) (now (x .exit))
+        ⌝ }
 {
-    let mut s = r;
-    let mut i = 0;
-    while i < 8 {
-        s[i] = r[i] ^ table3(octet(a, i));
-        i += 1;
+    let mut r = 0;
+    let mut j = 0;
+    while j < 8 {
+        r = r ^ word(256 * j + byte(x, u, v, w, k, j));
+        j += 1;
     }
-    s
+    r
 }
 
-fn add4(a: u64, r: [u64; 8]) -> [u64; 8]
-    ensures { λ s. ⌜ s ≡ added 4 a r ⌝ }
+// LPS X[s](b) in the place of s, vectors of eight words, lowest first.
+pub fn turn(s: &mut [u64; 8], b: &[u64; 8])
+    ensures { λ _. ⌜ now (s .exit) ≡ sets (now (s .entry)) 0 (LPS (X (now (s .entry)) (now (b .entry)))) ⌝ }
 {
-    let mut s = r;
-    let mut i = 0;
-    while i < 8 {
-        s[i] = r[i] ^ table4(octet(a, i));
-        i += 1;
+    let mut x = spread(s, b);
+    let u = bytes_of(s[5] ^ b[5]);
+    let v = bytes_of(s[6] ^ b[6]);
+    let w = bytes_of(s[7] ^ b[7]);
+    let mut k = 0;
+    while k < 8 {
+        s[k] = column(&mut x, &u, &v, &w, k);
+        k += 1;
     }
-    s
-}
-
-fn add5(a: u64, r: [u64; 8]) -> [u64; 8]
-    ensures { λ s. ⌜ s ≡ added 5 a r ⌝ }
-{
-    let mut s = r;
-    let mut i = 0;
-    while i < 8 {
-        s[i] = r[i] ^ table5(octet(a, i));
-        i += 1;
-    }
-    s
-}
-
-fn add6(a: u64, r: [u64; 8]) -> [u64; 8]
-    ensures { λ s. ⌜ s ≡ added 6 a r ⌝ }
-{
-    let mut s = r;
-    let mut i = 0;
-    while i < 8 {
-        s[i] = r[i] ^ table6(octet(a, i));
-        i += 1;
-    }
-    s
-}
-
-fn add7(a: u64, r: [u64; 8]) -> [u64; 8]
-    ensures { λ s. ⌜ s ≡ added 7 a r ⌝ }
-{
-    let mut s = r;
-    let mut i = 0;
-    while i < 8 {
-        s[i] = r[i] ^ table7(octet(a, i));
-        i += 1;
-    }
-    s
 }
 
 // LPS of a vector of eight words, lowest first.
 pub fn lps(a: [u64; 8]) -> [u64; 8]
     ensures { λ r. ⌜ r ≡ LPS a ⌝ }
 {
-    let r0 = add0(a[0], [0; 8]);
-    let r1 = add1(a[1], r0);
-    let r2 = add2(a[2], r1);
-    let r3 = add3(a[3], r2);
-    let r4 = add4(a[4], r3);
-    let r5 = add5(a[5], r4);
-    let r6 = add6(a[6], r5);
-    add7(a[7], r6)
+    let mut s = a;
+    turn(&mut s, &[0; 8]);
+    s
 }

@@ -2,13 +2,14 @@
 use mathlib.Core.Path.{_≡_, refl, ap, _∙_}
 use mathlib.Core.List.{List, [], _∷_, _++_}
 use Prim.Native.Nat.{ℕ}
-use lib.ListN.{length, getD, drop, replicate}
+use lib.ListN.{getD, drop, replicate}
 use Rattle.octets.specs.Numbers.{le, leOctets}
 use Rattle.tables.specs.Tables.{pi, A}
 use Rattle.tables.specs.Matrix.{lin, l}
 use Rattle.lps.specs.Vectors.{bytes, words, tau, X, S, P, L, LPS}
 use Rattle.rounds.specs.Constants.{C}
 use Rattle.rounds.specs.Sums.{vec, lowest}
+use Rattle.rounds.specs.Rounds.{constants}
 use Rattle.rounds.specs.Keys.{schedule, keysOf, firstKeys}
 
 abbrev K1 : List ℕ
@@ -131,16 +132,12 @@ key12 : LPS (X K12 (vec (getD C 11 0))) ≡ K13
 unfolding LPS L words P S bytes X le leOctets l lin A pi tau C vec lowest
 key12 = refl
 
-step : (c : ℕ) (cs k : List ℕ) {next rest : List ℕ} → LPS (X k (vec c)) ≡ next → schedule cs next ≡ rest → schedule (c ∷ cs) k ≡ k ++ rest
+step : (c : List ℕ) (cs : List (List ℕ)) (k : List ℕ) {next rest : List ℕ} → LPS (X k c) ≡ next → schedule cs next ≡ rest → schedule (c ∷ cs) k ≡ k ++ rest
 unfolding schedule
 step c cs k e r = ap (λ (x : List ℕ). k ++ schedule cs x) e ∙ ap (λ (x : List ℕ). k ++ x) r
 
 pub first-right : firstKeys ≡ first
-unfolding firstKeys keysOf C schedule first
+unfolding firstKeys keysOf constants C schedule first
 first-right =
-    ap (schedule C) first-key
-    ∙ step _ (drop 1 C) K1 key1 (step _ (drop 2 C) K2 key2 (step _ (drop 3 C) K3 key3 (step _ (drop 4 C) K4 key4 (step _ (drop 5 C) K5 key5 (step _ (drop 6 C) K6 key6 (step _ (drop 7 C) K7 key7 (step _ (drop 8 C) K8 key8 (step _ (drop 9 C) K9 key9 (step _ (drop 10 C) K10 key10 (step _ (drop 11 C) K11 key11 (step _ (drop 12 C) K12 key12 refl)))))))))))
-
-pub length-first : length firstKeys ≡ 104
-unfolding first
-length-first = ap length first-right
+    ap (schedule constants) first-key
+    ∙ step _ (drop 1 constants) K1 key1 (step _ (drop 2 constants) K2 key2 (step _ (drop 3 constants) K3 key3 (step _ (drop 4 constants) K4 key4 (step _ (drop 5 constants) K5 key5 (step _ (drop 6 constants) K6 key6 (step _ (drop 7 constants) K7 key7 (step _ (drop 8 constants) K8 key8 (step _ (drop 9 constants) K9 key9 (step _ (drop 10 constants) K10 key10 (step _ (drop 11 constants) K11 key11 (step _ (drop 12 constants) K12 key12 refl)))))))))))

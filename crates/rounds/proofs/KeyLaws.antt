@@ -1,28 +1,22 @@
 -- g by its round keys is g, and the keys are what the rounds over the constants give. Assumes nothing.
 use mathlib.Core.Path.{_≡_, refl, sym, ap, ap₂, _∙_, subst}
 use mathlib.Core.List.{List, [], _∷_, _++_, append-assoc, append-nil}
-use Prim.Native.Nat.{ℕ, suc, _+_, _-_, _*_, _<_, _≤_, zero-le}
+use Prim.Native.Nat.{ℕ, suc, _+_, _-_, _*_, _<_, _≤_}
 use native.Mathlib.Numerals.{add-one}
 use native.Mathlib.Omega.{arith}
 use lib.Bits.{bitXor, xor-comm}
-use lib.ListN.{length, getD, take, drop, List·getD-append, take-append-drop}
+use lib.ListN.{length, getD, take, drop, drop-of-length-le, List·getD-append}
 use lib.Seq.{paste, take-paste, drop-paste, length-paste, drop-cons, drop-drop, drop-append-seam, take-all, getD-drop}
-use Rattle.lps.specs.Vectors.{each, X, L, words, LPS}
+use Rattle.lps.specs.Vectors.{each, X, LPS}
 use Rattle.lps.proofs.Each.{each-equal, each-at}
+use Rattle.lps.proofs.Words.{length-LPS}
 use Rattle.rounds.specs.Constants.{C}
-use Rattle.rounds.specs.Sums.{vec}
-use Rattle.rounds.specs.Rounds.{rounds, E, g}
+use Rattle.rounds.specs.Rounds.{constants, E, gOver, g}
 use Rattle.rounds.specs.Keys.{schedule, keysOf, through, gBy}
-use Rattle.rounds.specs.Inner.{ran, flat}
-use Rattle.rounds.proofs.SumLaws.{length-vec}
 
-count : length C ≡ 12
-unfolding C
+count : length constants ≡ 12
+unfolding constants C
 count = refl
-
-pub length-LPS : (a : List ℕ) → length (LPS a) ≡ 8
-unfolding LPS L words
-length-LPS a = refl
 
 X-comm : (a b : List ℕ) → X a b ≡ X b a
 unfolding X
@@ -42,15 +36,15 @@ drop-front : (k s : List ℕ) → length k ≡ 8 → drop 8 (k ++ s) ≡ s
 drop-front k s e = subst (λ (n : ℕ). drop n (k ++ s) ≡ s) e (drop-append-seam k s)
 
 -- E by the schedule of its key
-rounds-through : (cs k m : List ℕ) → length k ≡ 8
-    → rounds cs k m ≡ X (drop (8 * length cs) (schedule cs k)) (through (length cs) (schedule cs k) m)
-unfolding rounds through schedule
+rounds-through : (cs : List (List ℕ)) (k m : List ℕ) → length k ≡ 8
+    → E cs k m ≡ X (drop (8 * length cs) (schedule cs k)) (through (length cs) (schedule cs k) m)
+unfolding E through schedule
 rounds-through [] k m e = refl
 rounds-through (c ∷ cs) k m e =
-    let next : List ℕ = LPS (X k (vec c)) in
+    let next : List ℕ = LPS (X k c) in
     let s : List ℕ = schedule cs next in
     let d : 8 + 8 * length cs ≡ 8 * suc (length cs) = omega arith in
-    rounds-through cs next (LPS (X k m)) (length-LPS (X k (vec c)))
+    rounds-through cs next (LPS (X k m)) (length-LPS (X k c))
     ∙ sym
     (ap₂ (λ (x y : List ℕ). X x (through (length cs) y (LPS (X (k ++ s) m))))
     (ap (λ (n : ℕ). drop n (k ++ s)) (sym d) ∙ sym (drop-drop (8 * length cs) 8 (k ++ s)) ∙ ap (drop (8 * length cs)) (drop-front k s e))
@@ -58,28 +52,11 @@ rounds-through (c ∷ cs) k m e =
     ∙ ap (λ (x : List ℕ). X (drop (8 * length cs) s) (through (length cs) s (LPS x))) (X-front k s m e))
 
 pub g-by : (n h m : List ℕ) → gBy (keysOf n h) h m ≡ g n h m
-unfolding gBy keysOf g E
+unfolding gBy keysOf g gOver
 g-by n h m =
     ap (λ (x : List ℕ). X (X x h) m)
-    (ap (λ (i : ℕ). X (drop (8 * i) (schedule C (LPS (X h n)))) (through i (schedule C (LPS (X h n))) m)) (sym count)
-    ∙ sym (rounds-through C (LPS (X h n)) m (length-LPS (X h n))))
-
--- the keys, as the rounds over the constants give them
-ran-schedule : (cs k : List ℕ) → k ++ ran (length cs) (flat cs) k ≡ schedule cs k
-unfolding ran flat schedule
-ran-schedule [] k = append-nil k
-ran-schedule (c ∷ cs) k =
-    ap (λ (x : List ℕ). k ++ x)
-    (ap₂ (λ (t r : List ℕ). t ++ ran (length cs) r t)
-    (ap LPS (X-front (vec c) (flat cs) k (length-vec c) ∙ X-comm (vec c) k)) (drop-front (vec c) (flat cs) (length-vec c))
-    ∙ ran-schedule cs (LPS (X k (vec c))))
-
-pub ran-keys : (n h : List ℕ) → length n ≡ 8 → ran 13 (n ++ flat C) h ≡ keysOf n h
-unfolding ran keysOf
-ran-keys n h e =
-    ap₂ (λ (t r : List ℕ). t ++ ran 12 r t) (ap LPS (X-front n (flat C) h e ∙ X-comm n h)) (drop-front n (flat C) e)
-    ∙ ap (λ (i : ℕ). LPS (X h n) ++ ran i (flat C) (LPS (X h n))) (sym count)
-    ∙ ran-schedule C (LPS (X h n))
+    (ap (λ (i : ℕ). X (drop (8 * i) (schedule constants (LPS (X h n)))) (through i (schedule constants (LPS (X h n))) m)) (sym count)
+    ∙ sym (rounds-through constants (LPS (X h n)) m (length-LPS (X h n))))
 
 -- a vector put in, and what stands before and after it
 module _ (b v : List ℕ) (p : ℕ) (n : length b ≡ 104) (e : length v ≡ 8) (h : p + 8 ≤ 104) where
@@ -92,61 +69,48 @@ module _ (b v : List ℕ) (p : ℕ) (n : length b ≡ 104) (e : length v ≡ 8) 
   put-back : drop (p + 8) (paste b p v 8) ≡ drop (p + 8) b
   put-back = drop-paste b p v 8 (omega arith) (omega arith)
 
--- i of n rounds are done: b has what they gave, and after it its own vectors still
-module _ (n : ℕ) (b₀ s : List ℕ) where
-  pub record Done (i : ℕ) (b t : List ℕ) : Type 0 where
-    pub upto : i ≤ n
-    pub long : length b ≡ 104
-    pub rest : drop (8 * i) b ≡ drop (8 * i) b₀
-    pub last : through (n - i) (drop (8 * i) b₀) t ≡ through n b₀ s
-    pub all : take (8 * i) b ++ ran (n - i) (drop (8 * i) b₀) t ≡ ran n b₀ s
-
-  pub done-start : length b₀ ≡ 104 → Done 0 b₀ s
-  done-start h =
-      let e : n - 0 ≡ n = omega arith in
-      record { upto = zero-le; long = h; rest = refl; last = ap (λ (k : ℕ). through k b₀ s) e; all = ap (λ (k : ℕ). ran k b₀ s) e }
-
-  pub done-turn : (i : ℕ) (b t next : List ℕ) → i < n → n ≤ 13 → Done i b t → next ≡ LPS (X (each (λ j. getD b (8 * i + j) 0)) t)
-      → Done (i + 1) (paste b (8 * i) next 8) next
-  unfolding through ran
-  done-turn i b t next h l d e =
-      let x : next ≡ LPS (X (drop (8 * i) b₀) t) = e ∙ ap LPS (X-at b t (8 * i) ∙ ap (λ (k : List ℕ). X k t) (d .rest)) in
-      let m : length next ≡ 8 = ap length x ∙ length-LPS (X (drop (8 * i) b₀) t) in
+-- i rounds by the keys ks are done
+module _ (ks m : List ℕ) where
+  pub through-turn : (i : ℕ) (k s : List ℕ) → i < 12 → X k s ≡ X (drop (8 * i) ks) s → through (12 - i) (drop (8 * i) ks) s ≡ through 12 ks m
+      → through (12 - (i + 1)) (drop (8 * (i + 1)) ks) (LPS (X s k)) ≡ through 12 ks m
+  unfolding through
+  through-turn i k s h e d =
+      let r : 12 - i ≡ suc (12 - (i + 1)) = omega arith in
       let f : 8 * i + 8 ≡ 8 * (i + 1) = omega arith in
-      let r : n - i ≡ suc (n - (i + 1)) = omega arith in
-      let q : drop 8 (drop (8 * i) b₀) ≡ drop (8 * (i + 1)) b₀ = drop-drop 8 (8 * i) b₀ ∙ ap (λ (k : ℕ). drop k b₀) f in
-      record {
-        upto = omega arith;
-        long = put-length b next (8 * i) (d .long) m (omega arith);
-        rest =
-            ap (λ (k : ℕ). drop k (paste b (8 * i) next 8)) (sym f)
-            ∙ put-back b next (8 * i) (d .long) m (omega arith)
-            ∙ sym (drop-drop 8 (8 * i) b)
-            ∙ ap (drop 8) (d .rest)
-            ∙ q;
-        last =
-            ap₂ (through (n - (i + 1))) (sym q) x
-            ∙ ap (λ (k : ℕ). through k (drop (8 * i) b₀) t) (sym r)
-            ∙ d .last;
-        all =
-            ap (λ (k : ℕ). take k (paste b (8 * i) next 8) ++ ran (n - (i + 1)) (drop (8 * (i + 1)) b₀) next) (sym f)
-            ∙ ap (λ (k : List ℕ). k ++ ran (n - (i + 1)) (drop (8 * (i + 1)) b₀) next) (put-front b next (8 * i) (d .long) m (omega arith))
-            ∙ append-assoc (take (8 * i) b) next (ran (n - (i + 1)) (drop (8 * (i + 1)) b₀) next)
-            ∙ ap₂ (λ (k y : List ℕ). take (8 * i) b ++ (y ++ ran (n - (i + 1)) k y)) (sym q) x
-            ∙ ap (λ (k : ℕ). take (8 * i) b ++ ran k (drop (8 * i) b₀) t) (sym r)
-            ∙ d .all;
-      }
+      let q : drop (8 * (i + 1)) ks ≡ drop 8 (drop (8 * i) ks) = ap (λ (n : ℕ). drop n ks) (sym f) ∙ sym (drop-drop 8 (8 * i) ks) in
+      ap₂ (through (12 - (i + 1))) q (ap LPS (X-comm s k ∙ e))
+      ∙ ap (λ (n : ℕ). through n (drop (8 * i) ks) s) (sym r)
+      ∙ d
 
-  pub done-end : (i : ℕ) (b t : List ℕ) → n ≤ i → Done i b t → (t ≡ through n b₀ s) × (b ≡ ran n b₀ s)
-  unfolding through ran
-  done-end i b t h d =
-      let e : 0 ≡ n - i = omega (arith, d .upto) in (
-        ap (λ (k : ℕ). through k (drop (8 * i) b₀) t) e ∙ d .last,
-        sym (take-append-drop (8 * i) b)
-            ∙ ap (λ (k : List ℕ). take (8 * i) b ++ k) (d .rest)
-            ∙ ap (λ (k : ℕ). take (8 * i) b ++ ran k (drop (8 * i) b₀) t) e
-            ∙ d .all,
-      )
+  pub through-end : (i : ℕ) (s : List ℕ) → 12 ≤ i → i ≤ 12 → through (12 - i) (drop (8 * i) ks) s ≡ through 12 ks m → s ≡ through 12 ks m
+  unfolding through
+  through-end i s h l d = let e : 0 ≡ 12 - i = omega arith in ap (λ (n : ℕ). through n (drop (8 * i) ks) s) e ∙ d
+
+-- i rounds are done, of the state and of the keys
+module _ (cs : List (List ℕ)) where
+  constants-turn : (i : ℕ) → i < length cs → drop i cs ≡ getD cs i [] ∷ drop (i + 1) cs
+  constants-turn i h = drop-cons cs i [] h ∙ ap (λ (k : ℕ). getD cs i [] ∷ drop k cs) (sym (add-one i))
+
+  constants-end : (i : ℕ) → length cs ≤ i → drop i cs ≡ []
+  constants-end i h = drop-of-length-le cs {i = i} h
+
+  pub rounds-turn : (i : ℕ) (k s : List ℕ) → i < length cs → E (drop (i + 1) cs) (LPS (X k (getD cs i []))) (LPS (X s k)) ≡ E (drop i cs) k s
+  unfolding E
+  rounds-turn i k s h =
+      ap (λ (v : List ℕ). E (drop (i + 1) cs) (LPS (X k (getD cs i []))) (LPS v)) (X-comm s k)
+      ∙ ap (λ (l : List (List ℕ)). E l k s) (sym (constants-turn i h))
+
+  pub rounds-end : (i : ℕ) (k s : List ℕ) → length cs ≤ i → X k s ≡ E (drop i cs) k s
+  unfolding E
+  rounds-end i k s h = ap (λ (l : List (List ℕ)). E l k s) (sym (constants-end i h))
+
+  pub schedule-turn : (i : ℕ) (k : List ℕ) → i < length cs → schedule (drop i cs) k ≡ k ++ schedule (drop (i + 1) cs) (LPS (X k (getD cs i [])))
+  unfolding schedule
+  schedule-turn i k h = ap (λ (l : List (List ℕ)). schedule l k) (constants-turn i h)
+
+  pub schedule-end : (i : ℕ) (k : List ℕ) → length cs ≤ i → schedule (drop i cs) k ≡ k
+  unfolding schedule
+  schedule-end i k h = ap (λ (l : List (List ℕ)). schedule l k) (constants-end i h)
 
 -- vectors put in one after the other: those put, and those still to come, are all
 module _ (all : List ℕ) where
@@ -161,17 +125,3 @@ module _ (all : List ℕ) where
 
   pub filled-end : (b : List ℕ) → Filled 104 b [] → b ≡ all
   filled-end b f = sym (take-all 104 b (omega (arith, f .0))) ∙ sym (append-nil (take 104 b)) ∙ f .1
-
--- the next constant
-pub flat-turn : (i : ℕ) → i < 12 → flat (drop i C) ≡ vec (getD C i 0) ++ flat (drop (i + 1) C)
-unfolding flat
-flat-turn i h =
-    ap flat (drop-cons C i 0 (omega (arith, count))) ∙ ap (λ (k : ℕ). vec (getD C i 0) ++ flat (drop k C)) (sym (add-one i))
-
-pub flat-end : flat (drop 12 C) ≡ []
-unfolding C flat
-flat-end = refl
-
--- the next eight words
-pub eight-turn : (p : ℕ) (s : List ℕ) → drop p s ≡ take 8 (drop p s) ++ drop (p + 8) s
-eight-turn p s = sym (take-append-drop 8 (drop p s)) ∙ ap (λ (x : List ℕ). take 8 (drop p s) ++ x) (drop-drop 8 p s)

@@ -3,17 +3,16 @@ use mathlib.Core.List.{List, [], _∷_, _++_}
 use Prim.Native.Nat.{ℕ, zero, suc}
 use lib.ListN.{drop, replicate}
 use Rattle.lps.specs.Vectors.{X, LPS}
-use Rattle.rounds.specs.Constants.{C}
-use Rattle.rounds.specs.Sums.{vec}
+use Rattle.rounds.specs.Rounds.{constants}
 
 -- the round keys from k on, one for each constant and the last: K_(i+1) = LPS(K_i ⊕ C_i)
-unfoldable pub schedule : List ℕ → List ℕ → List ℕ
+unfoldable pub schedule : List (List ℕ) → List ℕ → List ℕ
 schedule [] k = k
-schedule (c ∷ cs) k = k ++ schedule cs (LPS (X k (vec c)))
+schedule (c ∷ cs) k = k ++ schedule cs (LPS (X k c))
 
 -- the round keys of g_N(h, m): 13 keys of eight words, one after the other
 unfoldable pub keysOf : List ℕ → List ℕ → List ℕ
-keysOf n h = schedule C (LPS (X h n))
+keysOf n h = schedule constants (LPS (X h n))
 
 -- the round keys of the first block of every hash, where N is 0 and h is IV, 64 bytes 01
 unfoldable pub firstKeys : List ℕ

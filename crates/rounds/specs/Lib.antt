@@ -2,4 +2,3 @@ pub mod Constants
 pub mod Sums
 pub mod Rounds
 pub mod Keys
-pub mod Inner

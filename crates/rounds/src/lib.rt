@@ -1,22 +1,19 @@
 // The round functions of GOST R 34.11-2012 (RFC 6986, section 8) and its sums modulo 2 to the 512, on vectors of eight words, lowest first.
 ghost use mathlib.Core.Path.{_≡_};
-ghost use mathlib.Core.List.{_++_};
 ghost use Prim.Native.Nat.{_+_, _*_, _^_, _<_, _≤_};
-ghost use lib.ListN.{getD, length, take, drop};
+ghost use lib.ListN.{getD, length};
 ghost use lib.Seq.{paste};
 ghost use Rattle.octets.specs.Same.{same};
 ghost use Rattle.lps.specs.Vectors.{each, X};
-ghost use Rattle.rounds.specs.Constants.{C};
-ghost use Rattle.rounds.specs.Sums.{vec, _⊞_};
-ghost use Rattle.rounds.specs.Rounds.{g};
-ghost use Rattle.rounds.specs.Keys.{through, keysOf, firstKeys, gBy};
-ghost use Rattle.rounds.specs.Inner.{flat, ran};
+ghost use Rattle.rounds.specs.Sums.{_⊞_};
+ghost use Rattle.rounds.specs.Rounds.{constants, gOver, g};
+ghost use Rattle.rounds.specs.Keys.{keysOf, gBy};
 
 mod constants;
 
-use constants::constant_word;
-use constants::first_word;
-use lps::lps;
+use constants::FIRST_KEYS;
+use constants::ITERATION;
+use lps::turn;
 
 // X[a](b).
 fn xor(a: [u64; 8], b: [u64; 8]) -> [u64; 8]
@@ -32,34 +29,6 @@ fn xor(a: [u64; 8], b: [u64; 8]) -> [u64; 8]
         a[6] ^ b[6],
         a[7] ^ b[7],
     ]
-}
-
-// The constant C_(i+1).
-fn constant(i: usize) -> [u64; 8]
-    requires { ⌜ i < 12 ⌝ }
-    ensures { λ r. ⌜ r ≡ vec (getD C i 0) ⌝ }
-{
-    let mut r = [0; 8];
-    let mut j = 0;
-    while j < 8 {
-        r[j] = constant_word(8 * i + j);
-        j += 1;
-    }
-    r
-}
-
-// The round key K_(i+1) of the first block.
-fn first_key(i: usize) -> [u64; 8]
-    requires { ⌜ i < 13 ⌝ }
-    ensures { λ r. ⌜ r ≡ take 8 (drop (8 * i) (firstKeys)) ⌝ }
-{
-    let mut r = [0; 8];
-    let mut j = 0;
-    while j < 8 {
-        r[j] = first_word(8 * i + j);
-        j += 1;
-    }
-    r
 }
 
 // The vector read from word p on.
@@ -91,81 +60,42 @@ fn put(b: &mut [u64], p: usize, v: [u64; 8])
     }
 }
 
-// n rounds from s on, each by its vector of b, which what it gives replaces. The one call of `lps`: so it stands here in place.
-fn run(b: &mut [u64], s: [u64; 8], n: usize) -> [u64; 8]
-    requires { ⌜ (length (now b) ≡ 104) × (n ≤ 13) ⌝ }
-    ensures { λ r. ⌜ (r ≡ through n (now (b .entry)) s) × (now (b .exit) ≡ ran n (now (b .entry)) s) ⌝ }
+// The iteration constants as vectors.
+pub fn iteration_constants() -> [[u64; 8]; 12]
+    ensures { λ r. ⌜ r ≡ constants ⌝ }
 {
-    let mut t = s;
-    let mut i = 0;
-    while i < n {
-        t = lps(xor(at(b, 8 * i), t));
-        put(b, 8 * i, t);
-        i += 1;
-    }
-    t
-}
-
-// n, and the constants after it.
-fn put_constants(b: &mut [u64], n: [u64; 8])
-    requires { ⌜ length (now b) ≡ 104 ⌝ }
-    ensures { λ _. ⌜ now (b .exit) ≡ n ++ flat C ⌝ }
-{
-    put(b, 0, n);
-    let mut i = 0;
-    while i < 12 {
-        put(b, 8 * i + 8, constant(i));
-        i += 1;
-    }
-}
-
-// The round keys of g_n(h, m), into a buffer.
-fn put_keys(b: &mut [u64], n: [u64; 8], h: [u64; 8])
-    requires { ⌜ length (now b) ≡ 104 ⌝ }
-    ensures { λ _. ⌜ now (b .exit) ≡ keysOf n h ⌝ }
-{
-    put_constants(b, n);
-    run(b, h, 13);
-}
-
-// The round keys of the first block.
-fn first_keys() -> [u64; 104]
-    ensures { λ r. ⌜ r ≡ firstKeys ⌝ }
-{
-    let mut b = [0; 104];
-    let mut i = 0;
-    while i < 13 {
-        put(&mut b, 8 * i, first_key(i));
-        i += 1;
-    }
-    b
+    ITERATION
 }
 
 // The round keys of g_n(h, m), for any m.
 pub fn round_keys(n: [u64; 8], h: [u64; 8]) -> [u64; 104]
     ensures { λ r. ⌜ r ≡ keysOf n h ⌝ }
 {
+    let c = iteration_constants();
     let mut b = [0; 104];
-    put_keys(&mut b, n, h);
+    let mut k = h;
+    turn(&mut k, &n);
+    let mut i = 0;
+    while i < 12 {
+        put(&mut b, 8 * i, k);
+        turn(&mut k, &c[i]);
+        i += 1;
+    }
+    put(&mut b, 96, k);
     b
-}
-
-// g_n(h, m) by its round keys, which what the rounds give replaces.
-fn finish(keys: &mut [u64], h: [u64; 8], m: [u64; 8]) -> [u64; 8]
-    requires { ⌜ length (now keys) ≡ 104 ⌝ }
-    ensures { λ r. ⌜ (r ≡ gBy (now (keys .entry)) h m) × (now (keys .exit) ≡ ran 12 (now (keys .entry)) m) ⌝ }
-{
-    let last = at(keys, 96);
-    let s = run(keys, m, 12);
-    xor(xor(xor(last, s), h), m)
 }
 
 // g_n(h, m) by its round keys.
 pub fn compress_with(keys: [u64; 104], h: [u64; 8], m: [u64; 8]) -> [u64; 8]
     ensures { λ r. ⌜ r ≡ gBy keys h m ⌝ }
 {
-    let mut b = keys;
-    finish(&mut b, h, m)
+    let mut s = m;
+    let mut i = 0;
+    while i < 12 {
+        turn(&mut s, &at(&keys, 8 * i));
+        i += 1;
+    }
+    xor(xor(xor(at(&keys, 96), s), h), m)
 }
 
 // Whether two vectors are equal.
@@ -182,13 +112,29 @@ fn alike(a: [u64; 8], b: [u64; 8]) -> bool
     true
 }
 
+// g_n(h, m), with a round for each of the constants c: whoever has many blocks makes the constants once. The state goes by a key before the next
+// key is made of it, so that neither waits for the other.
+pub fn compress_over(c: &[[u64; 8]], n: [u64; 8], h: [u64; 8], m: [u64; 8]) -> [u64; 8]
+    ensures { λ r. ⌜ r ≡ gOver (now (c .entry)) n h m ⌝ }
+{
+    let mut k = h;
+    let mut s = m;
+    turn(&mut k, &n);
+    let mut i = 0;
+    while i < c.len() {
+        turn(&mut s, &k);
+        turn(&mut k, &c[i]);
+        i += 1;
+    }
+    xor(xor(xor(k, s), h), m)
+}
+
 // g_n(h, m).
 pub fn compress(n: [u64; 8], h: [u64; 8], m: [u64; 8]) -> [u64; 8]
     ensures { λ r. ⌜ r ≡ g n h m ⌝ }
 {
-    let mut b = [0; 104];
-    put_keys(&mut b, n, h);
-    finish(&mut b, h, m)
+    let c = iteration_constants();
+    compress_over(&c, n, h, m)
 }
 
 // g_n(h, m), of a block that may be the first: every hash starts from one n and one h, so the round keys there are constants.
@@ -196,8 +142,7 @@ pub fn compress_block(n: [u64; 8], h: [u64; 8], m: [u64; 8]) -> [u64; 8]
     ensures { λ r. ⌜ r ≡ g n h m ⌝ }
 {
     if alike(n, [0; 8]) && alike(h, [0x0101010101010101; 8]) {
-        let mut first = first_keys();
-        return finish(&mut first, h, m);
+        return compress_with(FIRST_KEYS, h, m);
     }
     compress(n, h, m)
 }

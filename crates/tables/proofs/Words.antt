@@ -1,20 +1,18 @@
 -- The 2,048 words of the eight tables, and that each is what the formula gives: one test, computed over all of them. A second one says that each
 -- has 64 bits. Assumes nothing.
-use mathlib.Core.Path.{_≡_, refl, sym, ap₂, _∙_, subst}
-use mathlib.Core.Bool.{Bool}
+use mathlib.Core.Path.{_≡_, refl, sym, subst}
+use mathlib.Core.Bool.{Bool, true, false, cond, not}
 use mathlib.Core.List.{List, [], _∷_}
-use Prim.Native.Nat.{ℕ, _+_, _*_, _/_, _%_, _^_, _<_}
-use native.Mathlib.Omega.{arith}
-use lib.Dec.{eqb, eqb→eq, ltb, ltb→lt}
-use lib.ListN.{length, getD, drop}
-use lib.Seq.{getD-drop}
+use Prim.Native.Nat.{ℕ, _/_, _%_, _^_, _<_, _≤_}
+use lib.Dec.{T, eqb, eqb→eq, ltb, ltb→lt, nltb→le, lit<}
+use lib.ListN.{length, getD, List·getD-eq-default}
 use Rattle.octets.proofs.Table.{at as entry-at}
 use Rattle.tables.specs.Tables.{pi, A}
-use Rattle.tables.specs.Matrix.{lin, l, entry}
+use Rattle.tables.specs.Matrix.{lin, l, entry, entryAt}
 
 -- the eight tables one after the other
-unfoldable pub all : List ℕ
-all =
+unfoldable pub words : List ℕ
+words =
     0xd01f715b5c7ef8e6 ∷ 0x16fa240980778325 ∷ 0xa8a42e857ee049c8 ∷ 0x6ac1068fa186465b ∷
     0x6e417bd7a2e9320b ∷ 0x665c8167a437daab ∷ 0x7666681aa89617f6 ∷ 0x4b959163700bdcf5 ∷
     0xf14be6b78df36248 ∷ 0xc585bd689a625cff ∷ 0x9557d7fca67d82cb ∷ 0x89f0b969af6dd366 ∷
@@ -531,32 +529,36 @@ all =
 right? : ℕ → ℕ → Bool
 right? i x = eqb x (entry (i / 256) (i % 256))
 
-count : length all ≡ 2048
-unfolding all
+count : length words ≡ 2048
+unfolding words
 count = refl
 
 -- the one fact: each of the 2,048 words is what the formula gives
-pub word-at : (i : ℕ) → i < 2048 → getD all i 0 ≡ entry (i / 256) (i % 256)
-unfolding right? entry l lin A pi all
-word-at i h = eqb→eq (getD all i 0) (entry (i / 256) (i % 256)) (entry-at right? all tt i (subst (λ (n : ℕ). i < n) (sym count) h))
+pub word-at : (i : ℕ) → i < 2048 → getD words i 0 ≡ entry (i / 256) (i % 256)
+unfolding right? entry l lin A pi words
+word-at i h = eqb→eq (getD words i 0) (entry (i / 256) (i % 256)) (entry-at right? words tt i (subst (λ (n : ℕ). i < n) (sym count) h))
 
 fits? : ℕ → ℕ → Bool
 fits? i x = ltb x (2 ^ 64)
 
-word-fits : (i : ℕ) → i < 2048 → getD all i 0 < 2 ^ 64
-unfolding fits? all
-word-fits i h = ltb→lt (getD all i 0) (2 ^ 64) (entry-at fits? all tt i (subst (λ (n : ℕ). i < n) (sym count) h))
+word-fits : (i : ℕ) → i < 2048 → getD words i 0 < 2 ^ 64
+unfolding fits? words
+word-fits i h = ltb→lt (getD words i 0) (2 ^ 64) (entry-at fits? words tt i (subst (λ (n : ℕ). i < n) (sym count) h))
 
--- table j, and those after it
-abbrev pub table : ℕ → List ℕ
-table j = drop (256 * j) all
+-- word i, or 0 after the last, as the formula has it
+pub word-right : (i : ℕ) → getD words i 0 ≡ entryAt i
+unfolding entryAt
+word-right i = by-place (ltb i 2048) refl
+  where
+    by-place : (t : Bool) → ltb i 2048 ≡ t → getD words i 0 ≡ cond t (entry (i / 256) (i % 256)) 0
+    by-place true e = word-at i (ltb→lt i 2048 (subst T (sym e) tt))
+    by-place false e = List·getD-eq-default words 0 (subst (λ (n : ℕ). n ≤ i) (sym count) (nltb→le i 2048 (subst (λ (t : Bool). T (not t)) (sym e) tt)))
 
-module _ (j b : ℕ) (hj : j < 8) (hb : b < 256) where
-  pub word-right : getD (table j) b 0 ≡ entry j b
-  word-right =
-      let q : (256 * j + b) / 256 ≡ j = omega arith in
-      let r : (256 * j + b) % 256 ≡ b = omega arith in
-      getD-drop (256 * j) all b 0 ∙ word-at (256 * j + b) (omega arith) ∙ ap₂ entry q r
-
-  pub word-small : getD (table j) b 0 < 2 ^ 64
-  word-small = rw getD-drop (word-fits (256 * j + b) (omega arith))
+pub word-small : (i : ℕ) → getD words i 0 < 2 ^ 64
+word-small i = by-place (ltb i 2048) refl
+  where
+    by-place : (t : Bool) → ltb i 2048 ≡ t → getD words i 0 < 2 ^ 64
+    by-place true e = word-fits i (ltb→lt i 2048 (subst T (sym e) tt))
+    by-place false e =
+        subst (λ (w : ℕ). w < 2 ^ 64) (sym (List·getD-eq-default words 0 (subst (λ (n : ℕ). n ≤ i) (sym count) (nltb→le i 2048 (subst (λ (t : Bool). T (not t)) (sym e) tt)))))
+        (lit< tt)

@@ -1,7 +1,9 @@
 -- A word through the matrix (RFC 6986, section 6.4), and a byte through the table of bytes and the matrix. Assumes nothing.
+use mathlib.Core.Bool.{cond}
 use mathlib.Core.List.{List, [], _∷_, reverse}
 use Prim.Native.Nat.{ℕ, _*_, _/_, _%_, _^_}
 use lib.Bits.{bitXor}
+use lib.Dec.{ltb}
 use lib.ListN.{getD}
 use Rattle.tables.specs.Tables.{pi, A}
 
@@ -17,3 +19,7 @@ l b = lin (reverse A) b
 -- l of pi(b) as byte j of a word, the other bytes 0: word b of table j
 unfoldable pub entry : ℕ → ℕ → ℕ
 entry j b = l (256 ^ j * getD pi b 0)
+
+-- word k of the eight tables one after the other; 0 after the last
+unfoldable pub entryAt : ℕ → ℕ
+entryAt k = cond (ltb k 2048) (entry (k / 256) (k % 256)) 0

@@ -12,31 +12,39 @@ use Rattle.hash.proofs.absorb.Statement.{statement}
 use Rattle.hash.proofs.absorb.Tie as tie
 
 abbrev Inv-loop : tie.InvT-loop
-Inv-loop m from core₀ p₀ core p = (p ≤ length m) × (absorbed 64 step core (drop p m) ≡ absorbed 64 step core₀ (drop from m))
+Inv-loop m from cs core₀ p₀ core p = (p ≤ length m) × (absorbed 64 step core (drop p m) ≡ absorbed 64 step core₀ (drop from m))
 
 abbrev μ-loop : tie.MeasureT-loop
-μ-loop m from core₀ p₀ core p = length m - p
+μ-loop m from cs core₀ p₀ core p = length m - p
+
+returns : tie.Need-returns Inv-loop μ-loop
+returns c =
+    let a = c .before .before .args in
+    sym (absorbed-end 64 (lit< tt) step (a .c) (drop (a .from) (a .m .now)) (simp length-drop (omega arith)))
 
 loop-holds : tie.Need-loop-holds Inv-loop μ-loop
 loop-holds c = (omega arith, refl)
 
+advance-over-requires : tie.Need-advance-over-requires Inv-loop μ-loop
+advance-over-requires c κs = c .before .before .before .before .iteration-constants .ensures
+
 loop-again : tie.Need-loop-again Inv-loop μ-loop
 unfolding step
 loop-again c =
-    let l = c .before .before .before .loop in
-    let m = c .before .before .before .before .before .args .m .now in
+    let l = c .before .before .before .before .loop in
+    let m = c .before .before .before .before .before .before .before .before .args .m .now in
     let h : 64 ≤ length (drop (l .p) m) = simp length-drop (omega arith) in
-    let e : c .advance .result ≡ step (l .core) (take 64 (drop (l .p) m)) = c .advance .ensures ∙ ap (advanced (l .core) 512) (c .before .load .ensures) in (
+    let e : c .advance-over .result ≡ step (l .core) (take 64 (drop (l .p) m)) = c .advance-over .ensures ∙ ap (advanced (l .core) 512) (c .before .load .ensures) in (
       omega arith,
       ap₂ (absorbed 64 step) e (sym (drop-drop 64 (l .p) m))
           ∙ sym (absorbed-step 64 (lit< tt) step (l .core) (drop (l .p) m) h)
           ∙ l .inv .1,
     )
 
-returns : tie.Need-returns Inv-loop μ-loop
-returns c =
+returns-2 : tie.Need-returns-2 Inv-loop μ-loop
+returns-2 c =
     let l = c .before .loop in
-    let m = c .before .before .before .args .m .now in
+    let m = c .before .before .before .before .before .args .m .now in
     sym (absorbed-end 64 (lit< tt) step (l .core) (drop (l .p) m) (simp length-drop (omega arith))) ∙ l .inv .1
 
 pub absorb-spec : {M : Type 1} → statement M
@@ -45,11 +53,15 @@ absorb-spec =
     (tie.spec
     Inv-loop
     μ-loop
+    (λ c. search needs)
+    returns
+    (λ c κs. search needs)
     loop-holds
     (λ c. search needs)
+    (λ c. search needs)
     (λ c κs. search needs)
-    (λ c κs. search needs)
+    advance-over-requires
     (λ c. search needs)
     (λ c. search needs)
     loop-again
-    returns)
+    returns-2)

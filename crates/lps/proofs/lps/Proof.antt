@@ -1,29 +1,16 @@
-use Rattle.lps.proofs.Words.{lps-chain}
+use mathlib.Core.Path.{_≡_, ap, _∙_}
+use lib.ListN.{length, replicate}
+use Rattle.lps.specs.Vectors.{X, LPS}
+use Rattle.lps.proofs.Columns.{turned, X-zero}
 use borrow.Author.Needs.{needs}
 use Rattle.lps.proofs.lps.Statement.{statement}
 use Rattle.lps.proofs.lps.Tie as tie
 
 returns : tie.Need-returns
-returns c = search lps-chain
+returns c =
+    let a = c .before .before .before .args .a in
+    let n : length a ≡ 8 = search needs in
+    c .turn .ensures ∙ turned a (X a (replicate 8 0)) n ∙ ap LPS (X-zero a n)
 
 pub lps-spec : {M : Type 1} → statement M
-lps-spec =
-    tie.close
-    (tie.spec
-    (λ c. search needs)
-    (λ c κs. search needs)
-    (λ c. search needs)
-    (λ c κs. search needs)
-    (λ c. search needs)
-    (λ c κs. search needs)
-    (λ c. search needs)
-    (λ c κs. search needs)
-    (λ c. search needs)
-    (λ c κs. search needs)
-    (λ c. search needs)
-    (λ c κs. search needs)
-    (λ c. search needs)
-    (λ c κs. search needs)
-    (λ c. search needs)
-    (λ c κs. search needs)
-    returns)
+lps-spec = tie.close (tie.spec (λ c κs. search needs) returns)

@@ -1,0 +1,13 @@
+-- What private functions of this crate promise each other. Assumes nothing.
+use Prim.Native.Nat.{ℕ, zero, suc}
+use mathlib.Core.List.{List, [], _++_}
+use lib.ListN.{take, drop}
+use Rattle.derive.specs.declared.Kept.{Kept}
+use Rattle.derive.specs.Derivation.{cardLabel}
+use Rattle.derive.specs.Kept.{derivedKept}
+use Rattle.cards.specs.Cards.{seedOf}
+
+-- the keys of the first n cards under a kept key
+unfoldable pub keysBy : Kept → ℕ → List ℕ → List ℕ
+keysBy k zero cs = []
+keysBy k (suc n) cs = derivedKept k cardLabel (seedOf (take 21 cs) .bytes) ++ keysBy k n (drop 21 cs)

@@ -1,0 +1,111 @@
+// A day's cards: the master keys of many cards under one issuer's key, which is kept for all of them (R 1323565.1.010, clause 4.1).
+ghost use mathlib.Core.Path.{_≡_};
+ghost use Prim.Native.Nat.{_+_, _*_, _≤_};
+ghost use lib.ListN.{length, take, drop};
+ghost use lib.Seq.{paste};
+ghost use Rattle.cards.specs.Cards.{seedOf, allFit, number, after};
+ghost use Rattle.cards.specs.Inner.{keysBy};
+use derive::Kept;
+use keys::SeedAnswer;
+
+// The label of card and session keys.
+const CARD_LABEL: [u8; 4] = [0x21, 0x07, 0x22, 0xe6];
+
+// The seed of the card at a place.
+fn seed_at(cards: &[u8], p: usize) -> SeedAnswer
+    requires { ⌜ p + 21 ≤ length (now cards) ⌝ }
+    ensures { λ r. ⌜ r ≡ seedOf (take 21 (drop p (now (cards .entry)))) ⌝ }
+{
+    let n = cards[p] as usize;
+    if n > 19 {
+        return SeedAnswer {
+            code: 2,
+            bytes: [0; 8],
+        };
+    }
+    keys::card_seed(&cards[p + 1..p + 1 + n], cards[p + 20])
+}
+
+// Whether the first n cards have the form that 01 asks for.
+fn all_fit(cards: &[u8], n: usize) -> bool
+    requires { ⌜ 21 * n ≤ length (now cards) ⌝ }
+    ensures { λ r. ⌜ r ≡ allFit n (now (cards .entry)) ⌝ }
+{
+    let mut i = 0;
+    while i < n {
+        let s = seed_at(cards, 21 * i);
+        if s.code != 0 {
+            return false;
+        }
+        i += 1;
+    }
+    true
+}
+
+// The 32 bytes of a key.
+fn key_of(key: &[u8]) -> [u8; 32]
+    requires { ⌜ length (now key) ≡ 32 ⌝ }
+    ensures { λ r. ⌜ r ≡ now (key .entry) ⌝ }
+{
+    let mut out = [0; 32];
+    let mut i = 0;
+    while i < 32 {
+        out[i] = key[i];
+        i += 1;
+    }
+    out
+}
+
+// A key written from a place on.
+fn put(out: &mut [u8], p: usize, key: [u8; 32])
+    requires { ⌜ p + 32 ≤ length (now out) ⌝ }
+    ensures { λ _. ⌜ now (out .exit) ≡ paste (now (out .entry)) p key 32 ⌝ }
+{
+    let mut i = 0;
+    while i < 32 {
+        out[p + i] = key[i];
+        i += 1;
+    }
+}
+
+// The keys of the first n cards under a kept key.
+fn put_keys(k: Kept, cards: &[u8], n: usize, out: &mut [u8])
+    requires { ⌜ (21 * n ≤ length (now cards)) × (length (now out) ≡ 32 * n) ⌝ }
+    ensures { λ _. ⌜ now (out .exit) ≡ keysBy k n (now (cards .entry)) ⌝ }
+{
+    let mut i = 0;
+    while i < n {
+        let s = seed_at(cards, 21 * i);
+        let seed = s.bytes;
+        put(out, 32 * i, derive::derive_kept(k, CARD_LABEL, seed));
+        i += 1;
+    }
+}
+
+// The card master keys of an issuer's key and of many cards, each of 21 bytes: the number of digits, nineteen places for them, and the sequence number (0: none). Each key goes
+// to 32 bytes of the slice lent. 1: a length; 2: a card; then nothing is written.
+pub fn card_keys(issuer: &[u8], cards: &[u8], out: &mut [u8]) -> u8
+    ensures { λ r. ⌜
+        (r ≡ number (now (issuer .entry)) (now (cards .entry)) (now (out .entry)))
+        × (now (out .exit) ≡ after (now (issuer .entry)) (now (cards .entry)) (now (out .entry)))
+        ⌝ }
+{
+    if issuer.len() != 32 {
+        return 1;
+    }
+    if cards.len() % 21 != 0 {
+        return 1;
+    }
+    if out.len() % 32 != 0 {
+        return 1;
+    }
+    let n = cards.len() / 21;
+    if out.len() / 32 != n {
+        return 1;
+    }
+    if !all_fit(cards, n) {
+        return 2;
+    }
+    put_keys(derive::keep(key_of(issuer)), cards, n, out);
+    0
+}

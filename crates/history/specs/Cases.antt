@@ -49,8 +49,8 @@ abbrev pub Unsound : Card → Call → Type 0
 Unsound r c = step r c ≡ plain r 1
 
 pub record Cases : Type 0 where
-  -- "Order: Open 6, 1, 7. Issuer answer 6, 1, 11. .. Script 6, 1 (header), 4, 5, 7": of each two neighbours a call that both refuse, and the first has it;
-  -- 8 goes ahead of 9 by DiffersExactly, and in a sound record 6 and 10 never meet
+  -- "Order: Open 6, 1, 7. Issuer answer 6, 1, 11. .. Script 6, 1 (header), 4, 5, 7": of each two neighbours a call that the first refuses, whatever the
+  -- second says; 8 goes ahead of 9 by DiffersExactly, and in a sound record 6 and 10 never meet
   pub open-6-1 : step (openAt 0) (Open []) ≡ plain (openAt 0) 6
   pub open-1-7 : step (cardAt 65535 1 0) (Open []) ≡ plain (cardAt 65535 1 0) 1
   pub answer-6-1 : step idle (IssuerAnswer [] []) ≡ plain idle 6

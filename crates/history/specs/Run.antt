@@ -8,7 +8,8 @@ use Rattle.card.specs.declared.Reply.{Reply}
 use Rattle.card.specs.Calls.{Call, Open, IssuerAnswer, Script, Close, Withdraw, Counters, Answer, step}
 use Rattle.card.specs.Personalise.{personalised}
 
--- what a card is personalised with (01, frame 00): keys AC, SMI, SMC, counter, counter block, mark, clear PIN block
+-- what a card is personalised with (01, frame 00): keys AC, SMI, SMC, counter, counter block, mark, clear PIN block; as lists and numbers of any size,
+-- so that the demands speak of what a program can give and more
 pub record Loading : Type 0 where
   pub ac : List ℕ
   pub smi : List ℕ

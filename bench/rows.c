@@ -205,28 +205,34 @@ static void gcrypt_code_twice(const uint8_t *key, const uint8_t *string, uint8_t
     memcpy(out + CODE, out, CODE);
 }
 
-static void gcrypt_opening(const struct input *in, uint8_t *out) {
-    uint8_t key[KEY], string[STRING_OF_OPENING] = {0};
+/* KEPT session keys first, then what is made under them, as on the other side. */
+static void gcrypt_session(const struct input *in, uint8_t session[KEPT][KEY]) {
     must(gcry_mac_setkey(hmac, in->key, KEY) == 0, "gcry_mac_setkey");
+    for (size_t i = 0; i < KEPT; i++) gcrypt_next_key(counters + i * SEED, session[i]);
+}
+
+static void gcrypt_opening(const struct input *in, uint8_t *out) {
+    static uint8_t session[KEPT][KEY];
+    uint8_t string[STRING_OF_OPENING] = {0};
+    gcrypt_session(in, session);
     for (size_t i = 0; i < KEPT; i++) {
-        gcrypt_next_key(counters + i * SEED, key);
         memcpy(string, in->text, OPENING);
         string[31] = (uint8_t)((i + 1) >> 8);
         string[32] = (uint8_t)(i + 1);
         string[36] = (uint8_t)(0xa0 + string[36] % 16);
         string[OPENING] = 0x80;
-        gcrypt_code_twice(key, string, out + i * ANSWER);
+        gcrypt_code_twice(session[i], string, out + i * ANSWER);
     }
 }
 
 static void gcrypt_answer(const struct input *in, uint8_t *out) {
-    uint8_t key[KEY], string[STRING_OF_OPENING] = {0};
-    must(gcry_mac_setkey(hmac, in->key, KEY) == 0, "gcry_mac_setkey");
+    static uint8_t session[KEPT][KEY];
+    uint8_t string[STRING_OF_OPENING] = {0};
+    gcrypt_session(in, session);
     for (size_t i = 0; i < KEPT; i++) {
-        gcrypt_next_key(counters + i * SEED, key);
         memcpy(string, in->text, ANSWER + CSU);
         string[16] = 0x80;
-        gcrypt_code_twice(key, string, out + i * ANSWER);
+        gcrypt_code_twice(session[i], string, out + i * ANSWER);
     }
 }
 

@@ -59,9 +59,11 @@ uint8_t box_card_key(const uint8_t *issuer, size_t issuer_length, const uint8_t 
  * the master keys published in R 1323565.1.010 come out (docs/DECISIONS.md, 1). out: 32. Refusals 1, 2. */
 uint8_t box_card_key_packed(const uint8_t *issuer, size_t issuer_length, const uint8_t *pan, size_t pan_length, uint8_t sequence, uint8_t *out, size_t out_length);
 
-/* The card master keys of many cards under one issuer master key of 32 bytes, as box_card_key makes each: the issuer's key is set up once for all. A card is 21 bytes: the
- * number of digits of its card number, nineteen places for them (those after the digits may hold anything) and the sequence number (0: none). cards_length is a multiple of
- * 21, and 0 is one. out: 32 bytes a card, in the cards' order. Refusals 1, 2; 2 where any card is wrong, and then no key is written. */
+/* The card master keys of many cards under one issuer master key of 32 bytes, as box_card_key makes each: the issuer's key is set up once for
+ * all. A card is 21 bytes: the
+ * number of digits of its card number, nineteen places for them (the values 0 to 9 and not characters; those after the digits may hold anything)
+ * and the sequence number (0: none). cards_length is a multiple of 21, and 0 is one. out: 32 bytes a card, in the cards' order. Refusals 1, 2; 2
+ * where any card is wrong, and then no key is written. */
 uint8_t box_card_keys(const uint8_t *issuer, size_t issuer_length, const uint8_t *cards, size_t cards_length, uint8_t *out, size_t out_length);
 
 /* The session key for cryptograms, from the master key AC of 32 bytes and the transaction counter. out: 32. Refusal 1. */

@@ -109,8 +109,11 @@ static void of_card(card *f, const char *name) {
 /* Many cards: each key is that of box_card_key; one wrong card, or a wrong length, and nothing is written. */
 static void of_cards(void) {
     size_t count = any() % 5, i, j;
-    struct lent a = lend(length_near(32)), b = lend(any() % 12 == 0 ? 21 * count + 1 : 21 * count), o = lend(any() % 12 == 0 ? 32 * count + 1 : 32 * count);
+    static const int off[] = {-32, -21, -1, 1, 21, 32}; /* from the right length */
+    size_t cards = 21 * count + (any() % 12 == 0 ? (size_t)off[any() % 6] : 0), keys = 32 * count + (any() % 12 == 0 ? (size_t)off[any() % 6] : 0);
+    struct lent a = lend(length_near(32)), b = lend(cards > 200 ? 0 : cards), o = lend(keys > 300 ? 0 : keys);
     uint8_t r, wanted = 0, key[32];
+    count = b.length / 21;
     for (i = 0; i < count; i++) {
         uint8_t *card = b.room + MARGIN + 21 * i;
         card[0] = any() % 20 == 0 ? (uint8_t)any() : (uint8_t)(12 + any() % 8);

@@ -21,8 +21,8 @@ use Rattle.keys.specs.CardNumber.{cardFits, Y}
 use Rattle.keys.specs.Answers.{cardAnswer, cardKey, seedAnswer}
 use Rattle.keys.proofs.CardLaws.{too-long}
 use Rattle.keys.proofs.AnswerLaws.{seed-no}
-use Rattle.cards.specs.Cards.{panOf, sequenceOf, seedOf, allFit, keysOf, lengthsFit, number, after}
-use Rattle.cards.specs.Inner.{keysBy}
+use Rattle.cards.specs.Cards.{panOf, sequenceOf, allFit, cardsKeys, lengthsFit, cardsNumber, cardsAfter}
+use Rattle.cards.specs.Inner.{seedOf, keysBy}
 
 -- the card at a place
 module _ (cs : List ℕ) (p : ℕ) (h : p + 21 ≤ length cs) where
@@ -142,8 +142,8 @@ module _ (key : List ℕ) (h : length key ≡ 32) where
       ∙ derived-kept key cardLabel (Y (panOf c) (sequenceOf c)) h
       ∙ sym (simp (eq-eqb _ _ h, f))
 
-  pub keys-kept : (n : ℕ) (cs : List ℕ) → allFit n cs ≡ true → keysBy (kept key) n cs ≡ keysOf key n cs
-  unfolding keysBy keysOf allFit
+  pub keys-kept : (n : ℕ) (cs : List ℕ) → allFit n cs ≡ true → keysBy (kept key) n cs ≡ cardsKeys key n cs
+  unfolding keysBy cardsKeys allFit
   keys-kept zero cs e = refl
   keys-kept (suc n) cs e =
       let b = and-eq-true-iff (cardFits (panOf (take 21 cs)) (sequenceOf (take 21 cs))) (allFit n (drop 21 cs)) .0 e in
@@ -151,19 +151,19 @@ module _ (key : List ℕ) (h : length key ≡ 32) where
 
 -- what is answered
 module _ (key cs lent : List ℕ) where
-  refused : lengthsFit key cs lent ≡ false → (1 ≡ number key cs lent) × (lent ≡ after key cs lent)
-  unfolding number after
+  refused : lengthsFit key cs lent ≡ false → (1 ≡ cardsNumber key cs lent) × (lent ≡ cardsAfter key cs lent)
+  unfolding cardsNumber cardsAfter
   refused e = (simp e, simp e)
 
-  pub no-key : (length key ≡ 32 → ⊥) → (1 ≡ number key cs lent) × (lent ≡ after key cs lent)
+  pub no-key : (length key ≡ 32 → ⊥) → (1 ≡ cardsNumber key cs lent) × (lent ≡ cardsAfter key cs lent)
   unfolding lengthsFit keyFits
   no-key h = refused (simp (ne-eqb _ _ h))
 
-  pub no-cards : (length cs % 21 ≡ 0 → ⊥) → (1 ≡ number key cs lent) × (lent ≡ after key cs lent)
+  pub no-cards : (length cs % 21 ≡ 0 → ⊥) → (1 ≡ cardsNumber key cs lent) × (lent ≡ cardsAfter key cs lent)
   unfolding lengthsFit
   no-cards h = refused (simp (ne-eqb _ _ h, and-false))
 
-  pub no-place : (length lent ≡ 32 * (length cs / 21) → ⊥) → (1 ≡ number key cs lent) × (lent ≡ after key cs lent)
+  pub no-place : (length lent ≡ 32 * (length cs / 21) → ⊥) → (1 ≡ cardsNumber key cs lent) × (lent ≡ cardsAfter key cs lent)
   unfolding lengthsFit
   no-place h = refused (simp (ne-eqb _ _ h, and-false))
 
@@ -172,10 +172,10 @@ module _ (key cs lent : List ℕ) where
     unfolding lengthsFit keyFits
     good = simp (eq-eqb _ _ h, eq-eqb _ _ w, eq-eqb _ _ l)
 
-    pub no-card : allFit (length cs / 21) cs ≡ false → (2 ≡ number key cs lent) × (lent ≡ after key cs lent)
-    unfolding number after
+    pub no-card : allFit (length cs / 21) cs ≡ false → (2 ≡ cardsNumber key cs lent) × (lent ≡ cardsAfter key cs lent)
+    unfolding cardsNumber cardsAfter
     no-card f = (simp (good, f), simp (good, f))
 
-    pub all-keys : allFit (length cs / 21) cs ≡ true → (x : List ℕ) → x ≡ keysBy (kept key) (length cs / 21) cs → (0 ≡ number key cs lent) × (x ≡ after key cs lent)
-    unfolding number after
+    pub all-keys : allFit (length cs / 21) cs ≡ true → (x : List ℕ) → x ≡ keysBy (kept key) (length cs / 21) cs → (0 ≡ cardsNumber key cs lent) × (x ≡ cardsAfter key cs lent)
+    unfolding cardsNumber cardsAfter
     all-keys f x e = (simp (good, f), e ∙ keys-kept key h (length cs / 21) cs f ∙ sym (simp (good, f)))

@@ -1,23 +1,20 @@
--- The master keys of many cards (003, clause 4.1). A card is 21 bytes: the number of digits, nineteen places for them, and the sequence number. Assumes nothing.
+-- The master keys of many cards (003, clause 4.1). A card is 21 bytes: the number of digits, nineteen places for them, and the sequence number.
+-- Assumes nothing.
 use Prim.Native.Nat.{ℕ, zero, suc, _*_, _/_, _%_}
 use mathlib.Core.Bool.{Bool, true, _&&_, cond}
 use mathlib.Core.List.{List, [], _++_}
 use lib.Dec.{eqb}
 use lib.ListN.{length, getD, take, drop}
 use Rattle.octets.specs.Lengths.{keyFits}
-use Rattle.keys.specs.declared.SeedAnswer.{SeedAnswer}
 use Rattle.keys.specs.CardNumber.{cardFits}
-use Rattle.keys.specs.Answers.{cardKey, seedAnswer}
+use Rattle.keys.specs.Answers.{cardKey}
 
--- the card number: of more than nineteen digits it is none
+-- the card number; a count above nineteen takes the sequence number too: twenty bytes, which are no card number
 unfoldable pub panOf : List ℕ → List ℕ
 panOf c = take (getD c 0 0) (drop 1 c)
 
 unfoldable pub sequenceOf : List ℕ → ℕ
 sequenceOf c = getD c 20 0
-
-unfoldable pub seedOf : List ℕ → SeedAnswer
-seedOf c = seedAnswer (panOf c) (sequenceOf c)
 
 -- whether the first k cards have 01's form
 unfoldable pub allFit : ℕ → List ℕ → Bool
@@ -25,18 +22,18 @@ allFit zero cs = true
 allFit (suc k) cs = cardFits (panOf (take 21 cs)) (sequenceOf (take 21 cs)) && allFit k (drop 21 cs)
 
 -- the keys of the first k cards, one after the other
-unfoldable pub keysOf : List ℕ → ℕ → List ℕ → List ℕ
-keysOf issuer zero cs = []
-keysOf issuer (suc k) cs = cardKey issuer (panOf (take 21 cs)) (sequenceOf (take 21 cs)) .bytes ++ keysOf issuer k (drop 21 cs)
+unfoldable pub cardsKeys : List ℕ → ℕ → List ℕ → List ℕ
+cardsKeys issuer zero cs = []
+cardsKeys issuer (suc k) cs = cardKey issuer (panOf (take 21 cs)) (sequenceOf (take 21 cs)) .bytes ++ cardsKeys issuer k (drop 21 cs)
 
 -- a key of 32 bytes, whole cards, and 32 bytes lent for each
 unfoldable pub lengthsFit : List ℕ → List ℕ → List ℕ → Bool
 lengthsFit issuer cs lent = keyFits issuer && (eqb (length cs % 21) 0 && eqb (length lent) (32 * (length cs / 21)))
 
 -- 1 for a length, 2 for a card
-unfoldable pub number : List ℕ → List ℕ → List ℕ → ℕ
-number issuer cs lent = cond (lengthsFit issuer cs lent) (cond (allFit (length cs / 21) cs) 0 2) 1
+unfoldable pub cardsNumber : List ℕ → List ℕ → List ℕ → ℕ
+cardsNumber issuer cs lent = cond (lengthsFit issuer cs lent) (cond (allFit (length cs / 21) cs) 0 2) 1
 
 -- the slice afterwards: the keys of all cards, or as it was
-unfoldable pub after : List ℕ → List ℕ → List ℕ → List ℕ
-after issuer cs lent = cond (lengthsFit issuer cs lent && allFit (length cs / 21) cs) (keysOf issuer (length cs / 21) cs) lent
+unfoldable pub cardsAfter : List ℕ → List ℕ → List ℕ → List ℕ
+cardsAfter issuer cs lent = cond (lengthsFit issuer cs lent && allFit (length cs / 21) cs) (cardsKeys issuer (length cs / 21) cs) lent

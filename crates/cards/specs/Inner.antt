@@ -5,7 +5,12 @@ use lib.ListN.{take, drop}
 use Rattle.derive.specs.declared.Kept.{Kept}
 use Rattle.derive.specs.Derivation.{cardLabel}
 use Rattle.derive.specs.Kept.{derivedKept}
-use Rattle.cards.specs.Cards.{seedOf}
+use Rattle.keys.specs.declared.SeedAnswer.{SeedAnswer}
+use Rattle.keys.specs.Answers.{seedAnswer}
+use Rattle.cards.specs.Cards.{panOf, sequenceOf}
+
+unfoldable pub seedOf : List ℕ → SeedAnswer
+seedOf c = seedAnswer (panOf c) (sequenceOf c)
 
 -- the keys of the first n cards under a kept key
 unfoldable pub keysBy : Kept → ℕ → List ℕ → List ℕ

@@ -3,8 +3,8 @@ ghost use mathlib.Core.Path.{_≡_};
 ghost use Prim.Native.Nat.{_+_, _*_, _≤_};
 ghost use lib.ListN.{length, take, drop};
 ghost use lib.Seq.{paste};
-ghost use Rattle.cards.specs.Cards.{seedOf, allFit, number, after};
-ghost use Rattle.cards.specs.Inner.{keysBy};
+ghost use Rattle.cards.specs.Cards.{allFit, cardsNumber, cardsAfter};
+ghost use Rattle.cards.specs.Inner.{seedOf, keysBy};
 use derive::Kept;
 use keys::SeedAnswer;
 
@@ -82,12 +82,12 @@ fn put_keys(k: Kept, cards: &[u8], n: usize, out: &mut [u8])
     }
 }
 
-// The card master keys of an issuer's key and of many cards, each of 21 bytes: the number of digits, nineteen places for them, and the sequence number (0: none). Each key goes
-// to 32 bytes of the slice lent. 1: a length; 2: a card; then nothing is written.
+// The card master keys of an issuer's key and of many cards, each of 21 bytes: the number of digits, nineteen places for them, and the
+// sequence number (0: none). Each key goes to 32 bytes of the slice lent. 1: a length; 2: a card; then nothing is written.
 pub fn card_keys(issuer: &[u8], cards: &[u8], out: &mut [u8]) -> u8
     ensures { λ r. ⌜
-        (r ≡ number (now (issuer .entry)) (now (cards .entry)) (now (out .entry)))
-        × (now (out .exit) ≡ after (now (issuer .entry)) (now (cards .entry)) (now (out .entry)))
+        (r ≡ cardsNumber (now (issuer .entry)) (now (cards .entry)) (now (out .entry)))
+        × (now (out .exit) ≡ cardsAfter (now (issuer .entry)) (now (cards .entry)) (now (out .entry)))
         ⌝ }
 {
     if issuer.len() != 32 {

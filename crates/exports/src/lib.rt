@@ -5,7 +5,7 @@ ghost use lib.ListN.{length};
 ghost use Rattle.cipher.specs.Answers.{enciphered, deciphered, coded};
 ghost use Rattle.derive.specs.Answers.{derivation};
 ghost use Rattle.keys.specs.Answers.{cardKey, cardKeyPacked, sessionKey, scriptKey, counterKey, idnAnswer};
-ghost use Rattle.cards.specs.Cards.{number, after};
+ghost use Rattle.cards.specs.Cards.{cardsNumber, cardsAfter};
 ghost use Rattle.pin.specs.Answers.{writePin, readPin};
 ghost use Rattle.cryptogram.specs.Answers.{kindOf, arpcAnswer};
 ghost use Rattle.exports.specs.Lent.{Given, GivenKey, GivenBlock, GivenCode, GivenIdn, GivenPin, GivenRead, GivenAnswer, GivenOpened, byNumber};
@@ -91,13 +91,13 @@ pub extern "C" fn box_card_key_packed(issuer: &[u8], pan: &[u8], sequence: u8, o
     give(r.code, &bytes, out)
 }
 
-// The card master keys of many cards under one issuer's key, which is set up once. A card is 21 bytes: the number of digits, nineteen places for them, and the sequence
-// number (0: none); its key goes to 32 bytes of the slice lent. 1: a length; 2: a card.
+// The card master keys of many cards under one issuer's key, which is set up once. A card is 21 bytes: the number of digits, nineteen
+// places for them, and the sequence number (0: none); its key goes to 32 bytes of the slice lent. 1: a length; 2: a card.
 #[no_mangle]
 pub extern "C" fn box_card_keys(issuer: &[u8], day: &[u8], out: &mut [u8]) -> u8
     ensures { λ r. ⌜
-        (r ≡ number (now (issuer .entry)) (now (day .entry)) (now (out .entry)))
-        × (now (out .exit) ≡ after (now (issuer .entry)) (now (day .entry)) (now (out .entry)))
+        (r ≡ cardsNumber (now (issuer .entry)) (now (day .entry)) (now (out .entry)))
+        × (now (out .exit) ≡ cardsAfter (now (issuer .entry)) (now (day .entry)) (now (out .entry)))
         ⌝ }
 {
     cards::card_keys(issuer, day, out)

@@ -1,8 +1,8 @@
 // The transformation LPS of GOST R 34.11-2012 (RFC 6986, section 7), by the words of `tables`.
 //
-// The shape is for the machine code. `word` is called at one place, so that its table stands in the code of `turn` once. The loop over the words of the answer stays a
-// loop: a byte is then the lowest of a register that is shifted by 8. Five words go so, and the bytes of the other three are read from memory: a processor has other
-// units for reads than for shifts.
+// The shape is for the machine code. `word` is called at one place, so that its table stands in the code of `turn` once. The loop over the words
+// of the answer stays a loop: a byte is then the lowest of a register that is shifted by 8. Five words go so, and the bytes of the other three are
+// read from memory: a processor has other units for reads than for shifts.
 ghost use mathlib.Core.Path.{_≡_};
 ghost use mathlib.Core.Bool.{cond};
 ghost use Prim.Native.Nat.{_*_, _/_, _<_};
@@ -95,7 +95,7 @@ fn column(x: &mut [u64; 10], u: &[u8], v: &[u8], w: &[u8], k: usize) -> u64
     r
 }
 
-// LPS X[s](b) in the place of s, vectors of eight words, lowest first.
+// LPS X[s](b) in the place of s, vectors of eight words, lowest first. `sets` writes the eight words over s: a lent array does not tell its length.
 pub fn turn(s: &mut [u64; 8], b: &[u64; 8])
     ensures { λ _. ⌜ now (s .exit) ≡ sets (now (s .entry)) 0 (LPS (X (now (s .entry)) (now (b .entry)))) ⌝ }
 {

@@ -1,4 +1,5 @@
-// The iteration constants, and the round keys of the first block. An array of constants is stored anew at each use: so a hash uses each once.
+// The iteration constants, and the round keys of the first block. An array of constants is stored anew at each use: so a
+// hash uses them a few times, and never once a block.
 
 // The constants C_1 to C_12, each of eight words, lowest first (RFC 6986, section 6.5).
 pub(crate) const ITERATION: [[u64; 8]; 12] = [

@@ -1,5 +1,6 @@
--- A function that is one match on a number, with an arm for each word of a list and 0 for the rest, proved for any words: a walk of its code by hand, in which the
--- arms go by induction. The borrow checker does not cover a match of over 512 arms; a shorter one it walks itself, with 45 KB of proof for each arm. Assumes nothing.
+-- A function that is one match on a number, with an arm for each word of a list and 0 for the rest, proved for any words: a walk of its code by
+-- hand, in which the arms go by induction. The borrow checker does not cover a match of over 512 arms; a shorter one it walks itself, with 45 KB of
+-- proof for each arm. Assumes nothing.
 use mathlib.Core.Path.{_≡_, refl, sym, ap, _∙_, subst}
 use mathlib.Core.Bool.{Bool, true, false}
 use mathlib.Core.List.{List, [], _∷_}

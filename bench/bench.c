@@ -106,7 +106,7 @@ int main(int argc, char **argv) {
     printf("| Operation | Counted | box, a second | box, ns | libgcrypt, ns | nettle, ns | box to the fastest peer, in time |\n");
     printf("|---|---|--:|--:|--:|--:|--:|\n");
     for (size_t i = 0; i < row_count; i++) table_row(&rows[i], count);
-    printf("\nEach cell is the median of %d samples of about %.1f ms; the middle half of a cell's samples spans at most %.0f percent of it.\n", count,
+    printf("\nEach cell is the median of %d samples of at least %.1f ms; the middle half of a cell's samples spans at most %.0f percent of it.\n", count,
            SAMPLE_NS / 1e6, 100 * widest);
     return 0;
 }

@@ -20,7 +20,7 @@ use Rattle.shapes.specs.Shape.{tagOf, dataOf, shape}
 use Rattle.shapes.specs.Command.{commandOf}
 use Rattle.message.specs.Code.{codeFits}
 use Rattle.transaction.specs.declared.Transaction.{Transaction}
-use Rattle.transaction.specs.Transaction.{isOpen, none, spoilt, kindFor, begun, isArqc, markFor, markAfter}
+use Rattle.transaction.specs.Transaction.{isOpen, none, spoilt, withPending, kindFor, begun, isArqc, markFor, markAfter}
 use Rattle.card.specs.declared.Card.{Card}
 use Rattle.card.specs.declared.Reply.{Reply}
 use Rattle.card.specs.Record.{sound, Kept, kept, withTransaction, withKept, withCounters, withSession, oneFailed}
@@ -163,8 +163,8 @@ orders (One SetMark) x = newMark true ∷ []
 orders (One ClearMark) x = newMark false ∷ []
 
 abbrev pub pend : Order → Transaction → Transaction
-pend (newPin p n) t = record { phase = t .phase; cryptogram = t .cryptogram; pin = p; count = n; mark = t .mark; spoilt = t .spoilt }
-pend (newMark b) t = record { phase = t .phase; cryptogram = t .cryptogram; pin = t .pin; count = t .count; mark = markFor b; spoilt = t .spoilt }
+pend (newPin p n) t = withPending t p n (t .mark)
+pend (newMark b) t = withPending t (t .pin) (t .count) (markFor b)
 
 abbrev pub pendAll : List Order → Transaction → Transaction
 pendAll [] t = t

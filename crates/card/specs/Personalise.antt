@@ -9,37 +9,28 @@ use Rattle.pin.specs.Answers.{readBlock}
 use Rattle.transaction.specs.Transaction.{none}
 use Rattle.card.specs.declared.Card.{Card}
 use Rattle.card.specs.declared.Reply.{Reply}
+use Rattle.card.specs.Record.{cardOf, countersAt}
 use Rattle.card.specs.Calls.{input, pinFormat, number, Verdict, refuse, accept, strikes, first, plain}
 
 -- no record: it has no PIN, so every call refuses it
 abbrev pub blank : Card
 blank =
-    record {
-      ac = replicate 32 0;
-      smi = replicate 32 0;
-      smc = replicate 32 0;
-      pin = replicate 12 0;
-      count = 0;
-      mark = false;
-      atc = 0;
-      counters = record { session = 0; failures = 0; decipherments = 0; authentications = 0 };
-      transaction = none;
-    }
+    cardOf
+    (record { ac = replicate 32 0; smi = replicate 32 0; smc = replicate 32 0 })
+    (record { pin = replicate 12 0; count = 0; mark = false })
+    0
+    (countersAt 0 0 0 0)
+    none
 
 -- keys AC, SMI, SMC, transaction counter, counter block, mark 00 or 01, clear PIN block
 abbrev pub fresh : List ℕ → List ℕ → List ℕ → ℕ → List ℕ → ℕ → List ℕ → Card
 fresh ac smi smc atc counters mark block =
-    record {
-      ac = ac;
-      smi = smi;
-      smc = smc;
-      pin = readBlock block .pin;
-      count = readBlock block .count;
-      mark = eqb mark 1;
-      atc = atc;
-      counters = countersOf counters;
-      transaction = none;
-    }
+    cardOf
+    (record { ac = ac; smi = smi; smc = smc })
+    (record { pin = readBlock block .pin; count = readBlock block .count; mark = eqb mark 1 })
+    atc
+    (countersOf counters)
+    none
 
 -- "refusals 1, then 9": a mark above 01, the format of the PIN block; the other lengths are those of the types
 abbrev pub loading : ℕ → List ℕ → Verdict

@@ -13,33 +13,53 @@ use Rattle.card.specs.declared.Card.{Card}
 unfoldable pub sound : Card → Bool
 sound r = pinFits 0 (r .count) (r .pin) && (pendingFits (r .transaction .count) (r .transaction .pin) && restFits (r .transaction))
 
--- what is kept from one transaction to the next
+-- the master keys, and what is kept from one transaction to the next
+pub record Masters : Type 0 where
+  pub ac : List ℕ
+  pub smi : List ℕ
+  pub smc : List ℕ
+
 pub record Kept : Type 0 where
   pub pin : List ℕ
   pub count : ℕ
   pub mark : Bool
 
+abbrev pub masters : Card → Masters
+masters r = record { ac = r .ac; smi = r .smi; smc = r .smc }
+
 abbrev pub kept : Card → Kept
 kept r = record { pin = r .pin; count = r .count; mark = r .mark }
 
--- the record with a part set anew
+-- the record of its parts, and a record with a part set anew
+abbrev pub cardOf : Masters → Kept → ℕ → Counters → Transaction → Card
+cardOf m k atc c t =
+    record {
+      ac = m .ac;
+      smi = m .smi;
+      smc = m .smc;
+      pin = k .pin;
+      count = k .count;
+      mark = k .mark;
+      atc = atc;
+      counters = c;
+      transaction = t;
+    }
+
 abbrev pub withTransaction : Card → Transaction → Card
-withTransaction r t =
-    record { ac = r .ac; smi = r .smi; smc = r .smc; pin = r .pin; count = r .count; mark = r .mark; atc = r .atc; counters = r .counters; transaction = t }
+withTransaction r t = cardOf (masters r) (kept r) (r .atc) (r .counters) t
 
 abbrev pub withKept : Card → Kept → Card
-withKept r k =
-    record { ac = r .ac; smi = r .smi; smc = r .smc; pin = k .pin; count = k .count; mark = k .mark; atc = r .atc; counters = r .counters; transaction = r .transaction }
+withKept r k = cardOf (masters r) k (r .atc) (r .counters) (r .transaction)
 
 abbrev pub withCounters : Card → ℕ → Counters → Card
-withCounters r atc c =
-    record { ac = r .ac; smi = r .smi; smc = r .smc; pin = r .pin; count = r .count; mark = r .mark; atc = atc; counters = c; transaction = r .transaction }
+withCounters r atc c = cardOf (masters r) (kept r) atc c (r .transaction)
 
--- the counters with the session counter set anew, and with one failure more
+-- the counters of their numbers; with the session counter set anew, and with one failure more
+abbrev pub countersAt : ℕ → ℕ → ℕ → ℕ → Counters
+countersAt s f d a = record { session = s; failures = f; decipherments = d; authentications = a }
+
 abbrev pub withSession : Counters → ℕ → Counters
-withSession c n =
-    record { session = n; failures = c .failures; decipherments = c .decipherments; authentications = c .authentications }
+withSession c n = countersAt n (c .failures) (c .decipherments) (c .authentications)
 
 abbrev pub oneFailed : Counters → Counters
-oneFailed c =
-    record { session = c .session; failures = c .failures + 1; decipherments = c .decipherments; authentications = c .authentications }
+oneFailed c = countersAt (c .session) (c .failures + 1) (c .decipherments) (c .authentications)

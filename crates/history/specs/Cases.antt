@@ -14,7 +14,7 @@ use Rattle.cryptogram.specs.Cryptogram.{cryptogramOf, arpcOf}
 use Rattle.transaction.specs.Transaction.{none, spoilt, begun}
 use Rattle.card.specs.declared.Card.{Card}
 use Rattle.card.specs.declared.Reply.{Reply}
-use Rattle.card.specs.Record.{withTransaction}
+use Rattle.card.specs.Record.{cardOf, countersAt, withTransaction}
 use Rattle.card.specs.Calls.{Call, Open, IssuerAnswer, Script, Close, Withdraw, Counters, pinFormat, arpcDiffers, number, arpcFor, gives, newPin, newMark, orders, plain, step}
 use Rattle.card.specs.Personalise.{blank, personalised}
 use Rattle.history.specs.Examples.{cardAt, idle, openAt, spoiltAt, both, messageOf}
@@ -22,17 +22,12 @@ use Rattle.history.specs.Examples.{cardAt, idle, openAt, spoiltAt, both,
 -- a blocked record that holds another number in each field, with a count and a PIN; and one that is personalised to it
 abbrev pub blockedWith : ℕ → List ℕ → Card
 blockedWith n p =
-    record {
-      ac = replicate 32 1;
-      smi = replicate 32 2;
-      smc = replicate 32 3;
-      pin = p;
-      count = n;
-      mark = true;
-      atc = 0x0104;
-      counters = record { session = 5; failures = 6; decipherments = 7; authentications = 8 };
-      transaction = none;
-    }
+    cardOf
+    (record { ac = replicate 32 1; smi = replicate 32 2; smc = replicate 32 3 })
+    (record { pin = p; count = n; mark = true })
+    0x0104
+    (countersAt 5 6 7 8)
+    none
 
 abbrev pub blocked : Card
 blocked = blockedWith 4 (1 ∷ 2 ∷ 3 ∷ 4 ∷ replicate 8 0)

@@ -13,24 +13,19 @@ use Rattle.cryptogram.specs.declared.Kind.the-variants.{Arqc, Tc, Aac}
 use Rattle.cryptogram.specs.Data.{cardData}
 use Rattle.transaction.specs.Transaction.{none, spoilt, begun}
 use Rattle.card.specs.declared.Card.{Card}
-use Rattle.card.specs.Record.{withTransaction}
+use Rattle.card.specs.Record.{cardOf, countersAt, withTransaction}
 use Rattle.card.specs.Calls.{Open, Close, Withdraw, Order, newPin, newMark, pendAll, plain, step}
 
 -- a record with PIN 1234 at a transaction counter, a session counter and a failure counter; one that is open; and that one
 -- spoilt, with orders pending
 abbrev pub cardAt : ℕ → ℕ → ℕ → Card
 cardAt atc session failures =
-    record {
-      ac = replicate 32 0;
-      smi = replicate 32 0;
-      smc = replicate 32 0;
-      pin = 1 ∷ 2 ∷ 3 ∷ 4 ∷ replicate 8 0;
-      count = 4;
-      mark = false;
-      atc = atc;
-      counters = record { session = session; failures = failures; decipherments = 0; authentications = 0 };
-      transaction = none;
-    }
+    cardOf
+    (record { ac = replicate 32 0; smi = replicate 32 0; smc = replicate 32 0 })
+    (record { pin = 1 ∷ 2 ∷ 3 ∷ 4 ∷ replicate 8 0; count = 4; mark = false })
+    atc
+    (countersAt session failures 0 0)
+    none
 
 abbrev pub idle : Card
 idle = cardAt 1 1 0

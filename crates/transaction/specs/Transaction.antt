@@ -43,6 +43,11 @@ abbrev pub spoilt : Transaction → Transaction
 spoilt t =
     record { phase = t .phase; cryptogram = t .cryptogram; pin = t .pin; count = t .count; mark = t .mark; spoilt = true }
 
+-- and with another PIN and mark pending
+abbrev pub withPending : Transaction → List ℕ → ℕ → PendingMark → Transaction
+withPending t p n m =
+    record { phase = t .phase; cryptogram = t .cryptogram; pin = p; count = n; mark = m; spoilt = t .spoilt }
+
 -- "Kind is AAC if the kept block mark is set, else ARQC."
 abbrev pub kindFor : Bool → Kind
 kindFor true = kinds.Aac

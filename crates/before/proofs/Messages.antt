@@ -8,6 +8,7 @@ use native.Mathlib.Omega.{arith}
 use borrow.Author.Tests.{le-leb, lt-leb}
 use lib.Dec.{leb, eqb}
 use lib.ListN.{length, getD, take, drop, length-take}
+use Rattle.answers.specs.declared.Refusal.the-variants.{Input, ShapeWrong, PhaseWrong}
 use Rattle.octets.specs.Same.{same}
 use Rattle.shapes.specs.declared.Opened.the-variants.{Data, Refused}
 use Rattle.shapes.specs.Length.{largest, largestShort, lengthOf, placeOf}
@@ -22,7 +23,7 @@ use Rattle.card.specs.declared.Card.{Card}
 use Rattle.card.specs.declared.Reply.{Reply}
 use Rattle.card.specs.Record.{sound}
 use Rattle.card.specs.Keys.{smiKey}
-use Rattle.card.specs.Calls.{Script, input, shapeWrong, phaseWrong, Verdict, refuse, accept, Message, read, judgedScript, judged, only, dueBy, afterBy, due, after, reply, plain, step}
+use Rattle.card.specs.Calls.{Script, Verdict, refuse, accept, Message, read, judgedScript, judged, only, dueBy, afterBy, due, after, reply, plain, step}
 use Rattle.before.specs.Statement.{sizeBefore, WritesAsBefore}
 use Rattle.before.specs.Base as base
 use Rattle.before.specs.Base.{largest as largestBefore, lengthOf as lengthBefore, body as bodyBefore, dataOf as dataBefore, bodyOf as partBefore, codeIn as codeBefore, shape as shapeBefore, codeFits as fitsBefore, answer as answerBefore, shaped as shapedBefore, openNumber as numberBefore, opened as openedBefore, message as messageBefore, wrapNumber as wrapBefore, wrapped as wrappedBefore, script as scriptBefore}
@@ -172,12 +173,12 @@ script-so r h m = go (sound r) (judgedScript r h (read r h m))
 
 -- of a message of no good shape nothing else is read
 unshaped-verdict : (r : Card) (h : List ℕ) (x : Message) → x .shaped ≡ false
-    → judgedScript r h x ≡ refuse (cond (isOpen (r .transaction .phase)) (cond (eqb (length h) 4) shapeWrong input) phaseWrong)
+    → judgedScript r h x ≡ refuse (cond (isOpen (r .transaction .phase)) (cond (eqb (length h) 4) ShapeWrong Input) PhaseWrong)
 unfolding judgedScript
 unshaped-verdict r h x e = go (isOpen (r .transaction .phase)) (eqb (length h) 4) (x .shaped) _ e
   where
     go : (o l s : Bool) (v : Verdict) → s ≡ false
-        → cond (not o) (refuse phaseWrong) (cond (not l) (refuse input) (cond (not s) (refuse shapeWrong) v)) ≡ refuse (cond o (cond l shapeWrong input) phaseWrong)
+        → cond (not o) (refuse PhaseWrong) (cond (not l) (refuse Input) (cond (not s) (refuse ShapeWrong) v)) ≡ refuse (cond o (cond l ShapeWrong Input) PhaseWrong)
     go false l s v z = refl
     go true false s v z = refl
     go true true false v z = refl

@@ -5,6 +5,8 @@ use mathlib.Core.Bool.{Bool, _&&_, cond}
 use mathlib.Core.List.{List, [], _∷_, _++_}
 use lib.Dec.{leb, eqb}
 use lib.ListN.{length, getD, take, drop}
+use Rattle.answers.specs.declared.Refusal.the-variants.{Input, NoRoom, ShapeWrong, PhaseWrong, CodeDiffers, Unreadable}
+use Rattle.answers.specs.Refusals.{number}
 use Rattle.octets.specs.Same.{same}
 use Rattle.shapes.specs.declared.Opened.{Opened}
 use Rattle.shapes.specs.declared.Opened.the-variants.{Data, Refused}
@@ -17,7 +19,7 @@ use Rattle.card.specs.declared.Card.{Card}
 use Rattle.card.specs.declared.Reply.{Reply}
 use Rattle.card.specs.Record.{sound}
 use Rattle.card.specs.Keys.{smiKey, smcKey}
-use Rattle.card.specs.Calls.{input, number, Verdict, refuse, accept, Message, judgedScript, acceptedScript, refusedScript, plain}
+use Rattle.card.specs.Calls.{Verdict, refuse, accept, Message, judgedScript, acceptedScript, refusedScript, plain}
 use Rattle.lines.specs.declared.Held.{Held}
 use Rattle.lines.specs.Lines.{lastFrame, lines, octetsOf, hexadecimal, lineFor}
 use Rattle.lines.specs.Answers.{nothing, Answer, numbered, replied}
@@ -54,10 +56,10 @@ unfoldable pub answer : ℕ → List ℕ → Opened
 answer r m = cond (eqb r 0) (Data (tagOf m) 2 (lengthOf m)) (Refused r)
 
 unfoldable pub shaped : List ℕ → Opened
-shaped m = answer (cond (shape m) 0 4) m
+shaped m = answer (cond (shape m) 0 (number ShapeWrong)) m
 
 unfoldable pub openNumber : List ℕ → List ℕ → List ℕ → ℕ
-openNumber key header m = cond (given key header) (cond (shape m) (cond (codeFits key header m) 0 8) 4) 1
+openNumber key header m = cond (given key header) (cond (shape m) (cond (codeFits key header m) 0 (number CodeDiffers)) (number ShapeWrong)) (number Input)
 
 unfoldable pub opened : List ℕ → List ℕ → List ℕ → Opened
 opened key header m = answer (openNumber key header m) m
@@ -68,7 +70,7 @@ message key header tag d = body tag d ++ codeFor key header (body tag d)
 -- "Its size is L + 8"
 unfoldable pub wrapNumber : List ℕ → List ℕ → ℕ → ℕ → ℕ → ℕ → ℕ
 wrapNumber key header tag n size place =
-    cond (given key header && (tagFits tag && leb n largest)) (cond (leb (place + (n + 8)) size) 0 3) 1
+    cond (given key header && (tagFits tag && leb n largest)) (cond (leb (place + (n + 8)) size) 0 (number NoRoom)) (number Input)
 
 unfoldable pub wrapped : List ℕ → List ℕ → ℕ → List ℕ → List ℕ → ℕ → Written
 wrapped key header tag d b place =
@@ -86,7 +88,7 @@ scriptAs r x (refuse q) = plain (refusedScript r q) (number q)
 scriptAs r x accept = plain (acceptedScript r x) 0
 
 unfoldable pub script : Card → List ℕ → List ℕ → Reply
-script r h m = cond (sound r) (scriptAs r (read r h m) (judgedScript r h (read r h m))) (plain r (number input))
+script r h m = cond (sound r) (scriptAs r (read r h m) (judgedScript r h (read r h m))) (plain r (number Input))
 
 -- "more than 280 digits is 13"
 unfoldable pub longest : ℕ
@@ -100,13 +102,13 @@ unfoldable pub called : Card → ℕ → List ℕ → Reply
 called r f s = cond (eqb f 3) (script r (take 4 s) (drop 4 s)) (calledNow r f s)
 
 unfoldable pub calling : Held → ℕ → List ℕ → Answer
-calling h f s = cond (h .exists) (replied f (called (h .card) f s)) (numbered h 6)
+calling h f s = cond (h .exists) (replied f (called (h .card) f s)) (numbered h (number PhaseWrong))
 
 unfoldable pub framed : Held → ℕ → List ℕ → Answer
 framed h f s = cond (eqb f 0) (starts h (personalisedBy s)) (calling h f s)
 
 unfoldable pub answerTo : Held → List ℕ → Answer
-answerTo h l = cond (readable l) (framed h (getD (octetsOf l) 0 0) (drop 1 (octetsOf l))) (numbered h 13)
+answerTo h l = cond (readable l) (framed h (getD (octetsOf l) 0 0) (drop 1 (octetsOf l))) (numbered h (number Unreadable))
 
 -- the clerk's trace
 unfoldable pub answers : Held → List (List ℕ) → List ℕ

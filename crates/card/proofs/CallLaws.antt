@@ -8,6 +8,9 @@ use mathlib.Core.List.{List}
 use lib.Dec.{eqb}
 use lib.ListN.{length, take, drop, length-append}
 use borrow.Author.Tests.{eq-eqb, ne-eqb, le-leb, lt-leb, not-true, not-false}
+use Rattle.answers.specs.declared.Refusal.{Refusal}
+use Rattle.answers.specs.Refusals.{number}
+use Rattle.answers.specs.declared.Refusal.the-variants.{PhaseWrong, NotListed}
 use Rattle.octets.specs.Same.{same}
 use Rattle.octets.specs.Numbers.{beOctets}
 use Rattle.octets.proofs.NumberLaws.{length-beOctets}
@@ -21,8 +24,9 @@ use Rattle.shapes.specs.Length.{lengthOf}
 use Rattle.shapes.specs.Shape.{tagOf, dataOf, shape}
 use Rattle.shapes.specs.Command.{commandOf, Lists}
 use Rattle.shapes.specs.Answers.{shaped, Tells}
+use Rattle.shapes.proofs.CommandLaws.{why-unlisted}
 use Rattle.shapes.proofs.AnswerLaws.{Told, told-data, told-refused}
-use Rattle.cipher.specs.declared.BlockAnswer.{BlockAnswer}
+use Rattle.answers.specs.declared.BlockAnswer.{BlockAnswer}
 use Rattle.cipher.specs.Answers.{enciphered}
 use Rattle.cipher.proofs.AnswerLaws as ciphers
 use Rattle.hash.specs.Hash.{hash256}
@@ -41,8 +45,7 @@ use Rattle.pin.specs.CounterBlock.{counterBlock, countersOf}
 use Rattle.pin.specs.Answers.{decipherPin, readBlock}
 use Rattle.message.specs.Code.{codeFits}
 use Rattle.cryptogram.specs.declared.Kind.{Kind}
-use Rattle.cryptogram.specs.declared.Answer.{Answer}
-use Rattle.cryptogram.specs.Answers.{cryptogramAnswer, arpcAnswer, kindNumber, yes as answerYes}
+use Rattle.cryptogram.specs.Answers.{cryptogramAnswer, arpcAnswer, kindNumber}
 use Rattle.cryptogram.proofs.AnswerLaws as cryptograms
 use Rattle.transaction.specs.declared.PendingMark.{PendingMark}
 use Rattle.transaction.specs.declared.Transaction.{Transaction}
@@ -51,7 +54,7 @@ use Rattle.card.specs.declared.Card.{Card}
 use Rattle.card.specs.declared.Reply.{Reply}
 use Rattle.card.specs.Record.{sound, Kept, kept, withTransaction, withKept, withCounters, withSession, oneFailed}
 use Rattle.card.specs.Keys.{sessionKeyOf, smiKey, smcKey, counterKeyOf}
-use Rattle.card.specs.Calls.{Call, Open, IssuerAnswer, Script, Close, Withdraw, Counters, phaseWrong, Verdict, refuse, accept, first, read, judgedScript, judged, grown, cryptogramFor, arpcFor, countersFor}
+use Rattle.card.specs.Calls.{Call, Open, IssuerAnswer, Script, Close, Withdraw, Counters, Verdict, refuse, accept, firstStruck, read, judgedScript, judged, grown, cryptogramFor, arpcFor, countersFor}
 use Rattle.card.specs.Calls.{scriptChecks, gives, newPin, newMark, pend, laid, accepted, due, after, reply, plain, step}
 use Rattle.card.specs.Inner.{scriptAs, takenAs, obeyedAs, judgedAs}
 use Rattle.card.specs.Personalise.{blank, personalised}
@@ -113,10 +116,10 @@ length-counters c =
     simp length-append (omega arith)
 
 module _ (r : Card) (k : List ℕ) (ek : k ≡ sessionKeyOf r) where
-  pub arpc-made : (csu : List ℕ) (x : Answer) → length (r .transaction .cryptogram) ≡ 8 → length csu ≡ 4 → x ≡ arpcAnswer k (r .transaction .cryptogram) csu → x .bytes ≡ arpcFor r csu
-  unfolding arpcFor answerYes
+  pub arpc-made : (csu : List ℕ) (x : BlockAnswer) → length (r .transaction .cryptogram) ≡ 8 → length csu ≡ 4 → x ≡ arpcAnswer k (r .transaction .cryptogram) csu → x .bytes ≡ arpcFor r csu
+  unfolding arpcFor
   arpc-made csu x g l e =
-      ap (λ (y : Answer). y .bytes)
+      ap (λ (y : BlockAnswer). y .bytes)
       (e ∙ ap (λ (y : List ℕ). arpcAnswer y (r .transaction .cryptogram) csu) ek ∙ sym (cryptograms.arpc-made (sessionKeyOf r) (r .transaction .cryptogram) csu (length-session r) g l))
 
   pub counters-made : (a : KeyAnswer) (b : List ℕ) (x : BlockAnswer) → a ≡ counterKey k → b ≡ counterBlock (r .counters) → x ≡ enciphered (a .bytes) b
@@ -129,13 +132,13 @@ module _ (r : Card) (k : List ℕ) (ek : k ≡ sessionKeyOf r) where
       ∙ sym (ciphers.fits (hash256 (sessionKeyOf r)) (counterBlock (r .counters)) _ (length-hash256 _) (length-counters (r .counters))))
 
 -- an opened transaction
-pub opened-by : (r : Card) (d k : List ℕ) (kind : Kind) (x : Answer) (t : Transaction) (n : ℕ) → length d ≡ 65 → k ≡ sessionKeyOf (grown r) → kind ≡ kindFor (r .mark)
+pub opened-by : (r : Card) (d k : List ℕ) (kind : Kind) (x : BlockAnswer) (t : Transaction) (n : ℕ) → length d ≡ 65 → k ≡ sessionKeyOf (grown r) → kind ≡ kindFor (r .mark)
     → x ≡ cryptogramAnswer k kind (r .atc + 1) d → t ≡ begun (r .mark) (x .bytes) → n ≡ kindNumber kind
     → record { card = withTransaction (grown r) t; code = 0; kind = n; bytes = x .bytes } ≡ reply (accepted r (Open d)) (gives r (Open d))
-unfolding cryptogramFor answerYes
+unfolding cryptogramFor
 opened-by r d k kind x t n l ek ej ex et en =
     let w : x .bytes ≡ cryptogramFor (grown r) d =
-    ap (λ (y : Answer). y .bytes)
+    ap (λ (y : BlockAnswer). y .bytes)
     (ex ∙ ap₂ (λ (y : List ℕ) (z : Kind). cryptogramAnswer y z (r .atc + 1) d) ek ej ∙ sym (cryptograms.made (sessionKeyOf (grown r)) (kindFor (r .mark)) (r .atc + 1) d (length-session (grown r)) l))
     in
     ap₂ (λ (y : Transaction) (z : ℕ). record { card = withTransaction (grown r) y; code = 0; kind = z; bytes = x .bytes }) et (en ∙ ap kindNumber ej)
@@ -185,7 +188,7 @@ module _ (r : Card) (a : Reply) (s : Bool) (e : s ≡ sound r) where
 
         pub script-idle : (x m : List ℕ) → a ≡ step r (Script x m)
         unfolding judged judgedScript due after
-        script-idle x m = let v : judged r (Script x m) ≡ refuse phaseWrong = rw shut in z ∙ rw (fine, v, shut)
+        script-idle x m = let v : judged r (Script x m) ≡ refuse PhaseWrong = rw shut in z ∙ rw (fine, v, shut)
 
         pub close-idle : a ≡ step r Close
         unfolding judged due after
@@ -206,7 +209,7 @@ module _ (r : Card) (a : Reply) (s : Bool) (e : s ≡ sound r) where
 
         pub script-on : (x m : List ℕ) → a ≡ judgedAs r x (read r x m) → a ≡ step r (Script x m)
         unfolding judged judgedScript
-        script-on x m z = z ∙ by-verdict x m (first (drop 1 (scriptChecks r x (read r x m)))) (rw ajar)
+        script-on x m z = z ∙ by-verdict x m (firstStruck (drop 1 (scriptChecks r x (read r x m)))) (rw ajar)
 
         pub close-spoilt : (t : Transaction) → r .transaction .spoilt ≡ true → t ≡ none → a ≡ plain (withTransaction r t) 10 → a ≡ step r Close
         unfolding judged due after
@@ -327,8 +330,10 @@ module _ (r : Card) (h m : List ℕ) (a : Reply) where
       its-command : q ≡ commandOf h (tagOf m) (lengthOf m)
       its-command = eq .is ∙ ap₂ (λ (x y : ℕ). commandOf h x y) (told .the-tag) (told .the-length)
 
-      pub judge-unlisted : q ≡ Unlisted → a ≡ plain (withTransaction r (spoilt (r .transaction))) 5 → Judged
-      judge-unlisted g z = z ∙ rw (eq-eqb _ _ l, told .good, sym its-command ∙ g)
+      pub judge-unlisted : (w : Refusal) (k : ℕ) → q ≡ Unlisted w → k ≡ number w → a ≡ plain (withTransaction r (spoilt (r .transaction))) k → Judged
+      judge-unlisted w k g ek z =
+          let e : w ≡ NotListed = why-unlisted h (tagOf m) (lengthOf m) w (sym its-command ∙ g) in
+          z ∙ ap (plain (withTransaction r (spoilt (r .transaction)))) (ek ∙ ap number e) ∙ rw (eq-eqb _ _ l, told .good, sym its-command ∙ g ∙ ap Unlisted e)
 
       pub judge-listed : (c : Command) → q ≡ One c → Obeyed r c h m a → Judged
       judge-listed c g z = z ∙ rw (eq-eqb _ _ l, told .good, sym its-command ∙ g)

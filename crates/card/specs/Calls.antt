@@ -5,6 +5,9 @@ use mathlib.Core.Bool.{Bool, true, false, not, _&&_, _||_, cond}
 use mathlib.Core.List.{List, [], _∷_}
 use lib.Dec.{eqb}
 use lib.ListN.{length, replicate}
+use Rattle.answers.specs.declared.Refusal.{Refusal}
+use Rattle.answers.specs.declared.Refusal.the-variants.{Input, ShapeWrong, NotListed, PhaseWrong, CounterFull, CodeDiffers, PinFormat, SpoiltClosed, ArpcDiffers}
+use Rattle.answers.specs.Refusals.{number}
 use Rattle.octets.specs.Same.{same}
 use Rattle.gost.specs.Gost.{subkeys, encipher}
 use Rattle.pin.specs.declared.PinRead.{PinRead}
@@ -32,21 +35,6 @@ pub data Call : Type 0 where
   Script : List ℕ → List ℕ → Call
   Close Withdraw Counters : Call
 
--- the rows of 01's table that a call of the card answers
-pub data Refusal : Type 0 where
-  input shapeWrong notListed phaseWrong counterFull codeDiffers pinFormat spoiltClosed arpcDiffers : Refusal
-
-abbrev pub number : Refusal → ℕ
-number input = 1
-number shapeWrong = 4
-number notListed = 5
-number phaseWrong = 6
-number counterFull = 7
-number codeDiffers = 8
-number pinFormat = 9
-number spoiltClosed = 10
-number arpcDiffers = 11
-
 -- a call is refused by the first check that strikes, and accepted where none does
 pub data Verdict : Type 0 where
   refuse : Refusal → Verdict
@@ -55,9 +43,9 @@ pub data Verdict : Type 0 where
 pub data Check : Type 0 where
   strikes : Bool → Refusal → Check
 
-abbrev pub first : List Check → Verdict
-first [] = accept
-first (strikes b q ∷ cs) = cond b (refuse q) (first cs)
+abbrev pub firstStruck : List Check → Verdict
+firstStruck [] = accept
+firstStruck (strikes b q ∷ cs) = cond b (refuse q) (firstStruck cs)
 
 -- what a script is to a record: whether its shape is good, its command, whether its code fits under the SMI key, and the PIN block that its data are
 -- under the SMC key
@@ -72,12 +60,16 @@ read r h m =
     record { shaped = shape m; command = commandOf h (tagOf m) (lengthOf m); coded = codeFits (smiKey r) h m; block = decipherPin (smcKey r) (dataOf m) }
 
 abbrev pub unlisted : Listed → Bool
-unlisted Unlisted = true
+unlisted (Unlisted q) = true
 unlisted (One c) = false
+
+abbrev pub whyUnlisted : Listed → Refusal
+whyUnlisted (Unlisted q) = q
+whyUnlisted (One c) = NotListed
 
 -- a new PIN whose block does not read
 abbrev pub unread : Listed → PinRead → Bool
-unread Unlisted x = false
+unread (Unlisted q) x = false
 unread (One SetPin) x = not (eqb (x .code) 0)
 unread (One SetMark) x = false
 unread (One ClearMark) x = false
@@ -85,17 +77,17 @@ unread (One ClearMark) x = false
 -- "Script 6, 1 (header), 4, 5, 7, 8, 9."
 abbrev pub scriptChecks : Card → List ℕ → Message → List Check
 scriptChecks r h x =
-    strikes (not (isOpen (r .transaction .phase))) phaseWrong
-    ∷ strikes (not (eqb (length h) 4)) input
-    ∷ strikes (not (x .shaped)) shapeWrong
-    ∷ strikes (unlisted (x .command)) notListed
-    ∷ strikes (eqb (r .counters .failures) 65535) counterFull
-    ∷ strikes (not (x .coded)) codeDiffers
-    ∷ strikes (unread (x .command) (x .block)) pinFormat
+    strikes (not (isOpen (r .transaction .phase))) PhaseWrong
+    ∷ strikes (not (eqb (length h) 4)) Input
+    ∷ strikes (not (x .shaped)) ShapeWrong
+    ∷ strikes (unlisted (x .command)) (whyUnlisted (x .command))
+    ∷ strikes (eqb (r .counters .failures) 65535) CounterFull
+    ∷ strikes (not (x .coded)) CodeDiffers
+    ∷ strikes (unread (x .command) (x .block)) PinFormat
     ∷ []
 
 unfoldable pub judgedScript : Card → List ℕ → Message → Verdict
-judgedScript r h x = first (scriptChecks r h x)
+judgedScript r h x = firstStruck (scriptChecks r h x)
 
 -- the ARPC that the card expects
 unfoldable pub arpcFor : Card → List ℕ → List ℕ
@@ -105,21 +97,21 @@ arpcFor r csu = arpcOf (subkeys 8 (sessionKeyOf r)) (r .transaction .cryptogram)
 -- length, which only a trace brings (Frames); an unsound record's 1 stands ahead of all, in due
 unfoldable pub judged : Card → Call → Verdict
 judged r (Open d) =
-    first
-    (strikes (isOpen (r .transaction .phase)) phaseWrong
-    ∷ strikes (not (eqb (length d) 65)) input
-    ∷ strikes (eqb (r .atc) 65535 || eqb (r .counters .session) 65535) counterFull
+    firstStruck
+    (strikes (isOpen (r .transaction .phase)) PhaseWrong
+    ∷ strikes (not (eqb (length d) 65)) Input
+    ∷ strikes (eqb (r .atc) 65535 || eqb (r .counters .session) 65535) CounterFull
     ∷ [])
 judged r (IssuerAnswer arpc csu) =
-    first
-    (strikes (not (isArqc (r .transaction .phase))) phaseWrong
-    ∷ strikes (not (eqb (length arpc) 8 && eqb (length csu) 4)) input
-    ∷ strikes (not (same arpc (arpcFor r csu))) arpcDiffers
+    firstStruck
+    (strikes (not (isArqc (r .transaction .phase))) PhaseWrong
+    ∷ strikes (not (eqb (length arpc) 8 && eqb (length csu) 4)) Input
+    ∷ strikes (not (same arpc (arpcFor r csu))) ArpcDiffers
     ∷ [])
 judged r (Script h m) = judgedScript r h (read r h m)
-judged r Close = first (strikes (not (isOpen (r .transaction .phase))) phaseWrong ∷ strikes (r .transaction .spoilt) spoiltClosed ∷ [])
+judged r Close = firstStruck (strikes (not (isOpen (r .transaction .phase))) PhaseWrong ∷ strikes (r .transaction .spoilt) SpoiltClosed ∷ [])
 judged r Withdraw = accept
-judged r Counters = first (strikes (not (isOpen (r .transaction .phase))) phaseWrong ∷ [])
+judged r Counters = firstStruck (strikes (not (isOpen (r .transaction .phase))) PhaseWrong ∷ [])
 
 -- Open: "counter and session counter grow by 1; the session key comes from the new counter"
 abbrev pub grown : Card → Card
@@ -157,7 +149,7 @@ pub data Order : Type 0 where
   newMark : Bool → Order
 
 abbrev pub orders : Listed → PinRead → List Order
-orders Unlisted x = []
+orders (Unlisted q) x = []
 orders (One SetPin) x = newPin (x .pin) (x .count) ∷ []
 orders (One SetMark) x = newMark true ∷ []
 orders (One ClearMark) x = newMark false ∷ []
@@ -192,7 +184,7 @@ accepted r Counters = r
 -- counter, and for 10: "pending dropped, none open"
 abbrev pub spoiledBy : Card → Refusal → Card
 spoiledBy r q =
-    withTransaction (withCounters r (r .atc) (cond (eqb (number q) 8) (oneFailed (r .counters)) (r .counters))) (spoilt (r .transaction))
+    withTransaction (withCounters r (r .atc) (cond (eqb (number q) (number CodeDiffers)) (oneFailed (r .counters)) (r .counters))) (spoilt (r .transaction))
 
 abbrev pub refusedScript : Card → Refusal → Card
 refusedScript r q = cond (isOpen (r .transaction .phase)) (spoiledBy r q) r
@@ -201,7 +193,7 @@ abbrev pub refused : Card → Call → Refusal → Card
 refused r (Open d) q = r
 refused r (IssuerAnswer arpc csu) q = r
 refused r (Script h m) q = refusedScript r q
-refused r Close q = cond (eqb (number q) 10) (withTransaction r none) r
+refused r Close q = cond (eqb (number q) (number SpoiltClosed)) (withTransaction r none) r
 refused r Withdraw q = r
 refused r Counters q = r
 
@@ -215,7 +207,7 @@ afterBy r c (refuse q) = refused r c q
 afterBy r c accept = accepted r c
 
 unfoldable pub due : Card → Call → Answer
-due r c = cond (sound r) (dueBy r c (judged r c)) (only (number input))
+due r c = cond (sound r) (dueBy r c (judged r c)) (only (number Input))
 
 unfoldable pub after : Card → Call → Card
 after r c = cond (sound r) (afterBy r c (judged r c)) r

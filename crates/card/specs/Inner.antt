@@ -3,11 +3,12 @@ use Prim.Native.Nat.{ℕ}
 use mathlib.Core.Bool.{Bool, true}
 use mathlib.Core.List.{List, []}
 use lib.ListN.{drop}
+use Rattle.answers.specs.Refusals.{number}
 use Rattle.pin.specs.declared.PinRead.{PinRead}
 use Rattle.shapes.specs.declared.command.Listed.{Listed}
 use Rattle.card.specs.declared.Card.{Card}
 use Rattle.card.specs.declared.Reply.{Reply}
-use Rattle.card.specs.Calls.{number, Verdict, refuse, accept, first, Message, scriptChecks, acceptedScript, spoiledBy, plain}
+use Rattle.card.specs.Calls.{Verdict, refuse, accept, firstStruck, Message, scriptChecks, acceptedScript, spoiledBy, plain}
 
 -- the reply by the verdict
 abbrev pub scriptAs : Card → Message → Verdict → Reply
@@ -16,13 +17,13 @@ scriptAs r x accept = plain (acceptedScript r x) 0
 
 -- what is left of the checks after the phase; after those of shape and instruction; after the code
 abbrev pub judgedAs : Card → List ℕ → Message → Reply
-judgedAs r h x = scriptAs r x (first (drop 1 (scriptChecks r h x)))
+judgedAs r h x = scriptAs r x (firstStruck (drop 1 (scriptChecks r h x)))
 
 abbrev pub coded : Listed → Bool → PinRead → Message
 coded l b x = record { shaped = true; command = l; coded = b; block = x }
 
 abbrev pub obeyedAs : Card → Listed → Bool → PinRead → Reply
-obeyedAs r l b x = scriptAs r (coded l b x) (first (drop 4 (scriptChecks r [] (coded l b x))))
+obeyedAs r l b x = scriptAs r (coded l b x) (firstStruck (drop 4 (scriptChecks r [] (coded l b x))))
 
 abbrev pub takenAs : Card → Listed → PinRead → Reply
-takenAs r l x = scriptAs r (coded l true x) (first (drop 6 (scriptChecks r [] (coded l true x))))
+takenAs r l x = scriptAs r (coded l true x) (firstStruck (drop 6 (scriptChecks r [] (coded l true x))))

@@ -4,13 +4,15 @@ use mathlib.Core.Bool.{false, not}
 use mathlib.Core.List.{List, [], _∷_}
 use lib.Dec.{leb, eqb}
 use lib.ListN.{replicate}
+use Rattle.answers.specs.declared.Refusal.the-variants.{Input, PinFormat}
+use Rattle.answers.specs.Refusals.{number}
 use Rattle.pin.specs.CounterBlock.{countersOf}
 use Rattle.pin.specs.Answers.{readBlock}
 use Rattle.transaction.specs.Transaction.{none}
 use Rattle.card.specs.declared.Card.{Card}
 use Rattle.card.specs.declared.Reply.{Reply}
 use Rattle.card.specs.Record.{cardOf, countersAt}
-use Rattle.card.specs.Calls.{input, pinFormat, number, Verdict, refuse, accept, strikes, first, plain}
+use Rattle.card.specs.Calls.{Verdict, refuse, accept, strikes, firstStruck, plain}
 
 -- no record: it has no PIN, so every call refuses it
 abbrev pub blank : Card
@@ -34,7 +36,7 @@ fresh ac smi smc atc counters mark block =
 
 -- "refusals 1, then 9": a mark above 01, the format of the PIN block; the other lengths are those of the types
 abbrev pub loading : ℕ → List ℕ → Verdict
-loading mark block = first (strikes (not (leb mark 1)) input ∷ strikes (not (eqb (readBlock block .code) 0)) pinFormat ∷ [])
+loading mark block = firstStruck (strikes (not (leb mark 1)) Input ∷ strikes (not (eqb (readBlock block .code) 0)) PinFormat ∷ [])
 
 abbrev pub loadedBy : Card → Verdict → Reply
 loadedBy r (refuse q) = plain blank (number q)

@@ -1,4 +1,5 @@
 // The soft card: its record, and the calls, each of which takes the record and hands back the record after it.
+use answers::Refusal;
 use message::Command;
 use message::Listed;
 use message::Opened;
@@ -209,7 +210,7 @@ fn take_pin(mut c: Card, block: &[u8]) -> Reply
     let key = smc_key(c);
     let x = pin::decipher_pin(&key, block);
     if x.code != 0 {
-        return spoiled(c, 9);
+        return spoiled(c, Refusal::PIN_FORMAT);
     }
     let mut t = c.transaction;
     let p = x.pin;
@@ -237,13 +238,13 @@ fn obey(mut c: Card, command: Command, header: &[u8], message: &[u8], block: &[u
 {
     let mut n = c.counters;
     if n.failures == 65535 {
-        return spoiled(c, 7);
+        return spoiled(c, Refusal::COUNTER_FULL);
     }
     let key = smi_key(c);
     n.failures += 1;
     c.counters = n;
     if !message::code_fits(&key, header, message) {
-        return spoiled(c, 8);
+        return spoiled(c, Refusal::CODE_DIFFERS);
     }
     n.failures -= 1;
     c.counters = n;
@@ -255,16 +256,19 @@ fn judge(c: Card, header: &[u8], message: &[u8]) -> Reply
     ensures { λ r. ⌜ r ≡ judgedAs c (now (header .entry)) (read c (now (header .entry)) (now (message .entry))) ⌝ }
 {
     if header.len() != 4 {
-        return spoiled(c, 1);
+        return spoiled(c, Refusal::INPUT);
     }
     let Opened::Data { tag, place, length } = message::shape(message) else {
-        return spoiled(c, 4);
+        return spoiled(c, Refusal::SHAPE_WRONG);
     };
-    let Listed::One(command) = Command::listed(header, tag, length) else {
-        return spoiled(c, 5);
-    };
-    let end = place + length;
-    obey(c, command, header, message, &message[place..end])
+    let listed = Command::listed(header, tag, length);
+    match listed {
+        Listed::One(command) => {
+            let end = place + length;
+            obey(c, command, header, message, &message[place..end])
+        }
+        Listed::Unlisted(why) => spoiled(c, why.number()),
+    }
 }
 
 // No record: every call refuses it.
@@ -303,11 +307,11 @@ impl Card {
         ensures { λ r. ⌜ r ≡ personalised ac smi smc atc counters mark block ⌝ }
     {
         if mark > 1 {
-            return plainly(blank(), 1);
+            return plainly(blank(), Refusal::INPUT);
         }
         let x = pin::read_block(block);
         if x.code != 0 {
-            return plainly(blank(), 9);
+            return plainly(blank(), Refusal::PIN_FORMAT);
         }
         let p = x.pin;
         let card = Card {
@@ -329,22 +333,22 @@ impl Card {
         ensures { λ r. ⌜ r ≡ step self (Open (now (input .entry))) ⌝ }
     {
         if !is_sound(self) {
-            return plainly(self, 1);
+            return plainly(self, Refusal::INPUT);
         }
         let t = self.transaction;
         let phase = t.phase;
         if transaction::is_open(phase) {
-            return plainly(self, 6);
+            return plainly(self, Refusal::PHASE_WRONG);
         }
         if input.len() != 65 {
-            return plainly(self, 1);
+            return plainly(self, Refusal::INPUT);
         }
         if self.atc == 65535 {
-            return plainly(self, 7);
+            return plainly(self, Refusal::COUNTER_FULL);
         }
         let n = self.counters;
         if n.session == 65535 {
-            return plainly(self, 7);
+            return plainly(self, Refusal::COUNTER_FULL);
         }
         opened(self, input)
     }
@@ -354,22 +358,22 @@ impl Card {
         ensures { λ r. ⌜ r ≡ step self (IssuerAnswer (now (arpc .entry)) (now (csu .entry))) ⌝ }
     {
         if !is_sound(self) {
-            return plainly(self, 1);
+            return plainly(self, Refusal::INPUT);
         }
         let t = self.transaction;
         let phase = t.phase;
         if !transaction::is_arqc(phase) {
-            return plainly(self, 6);
+            return plainly(self, Refusal::PHASE_WRONG);
         }
         if arpc.len() != 8 {
-            return plainly(self, 1);
+            return plainly(self, Refusal::INPUT);
         }
         if csu.len() != 4 {
-            return plainly(self, 1);
+            return plainly(self, Refusal::INPUT);
         }
         let own = arpc_for(self, csu);
         if !octets::same(arpc, &own) {
-            return plainly(self, 11);
+            return plainly(self, Refusal::ARPC_DIFFERS);
         }
         let mut n = self.counters;
         n.session = 0;
@@ -382,12 +386,12 @@ impl Card {
         ensures { λ r. ⌜ r ≡ step self (Script (now (header .entry)) (now (message .entry))) ⌝ }
     {
         if !is_sound(self) {
-            return plainly(self, 1);
+            return plainly(self, Refusal::INPUT);
         }
         let t = self.transaction;
         let phase = t.phase;
         if !transaction::is_open(phase) {
-            return plainly(self, 6);
+            return plainly(self, Refusal::PHASE_WRONG);
         }
         judge(self, header, message)
     }
@@ -397,16 +401,16 @@ impl Card {
         ensures { λ r. ⌜ r ≡ step self Close ⌝ }
     {
         if !is_sound(self) {
-            return plainly(self, 1);
+            return plainly(self, Refusal::INPUT);
         }
         let t = self.transaction;
         let phase = t.phase;
         if !transaction::is_open(phase) {
-            return plainly(self, 6);
+            return plainly(self, Refusal::PHASE_WRONG);
         }
         if t.spoilt {
             self.transaction = transaction::no_transaction();
-            return plainly(self, 10);
+            return plainly(self, Refusal::SPOILT_CLOSED);
         }
         let mut d = lay(self, t);
         d.transaction = transaction::no_transaction();
@@ -418,7 +422,7 @@ impl Card {
         ensures { λ r. ⌜ r ≡ step self Withdraw ⌝ }
     {
         if !is_sound(self) {
-            return plainly(self, 1);
+            return plainly(self, Refusal::INPUT);
         }
         let rest = transaction::no_transaction();
         self.transaction = rest;
@@ -430,12 +434,12 @@ impl Card {
         ensures { λ r. ⌜ r ≡ step self CountersCall ⌝ }
     {
         if !is_sound(self) {
-            return plainly(self, 1);
+            return plainly(self, Refusal::INPUT);
         }
         let t = self.transaction;
         let phase = t.phase;
         if !transaction::is_open(phase) {
-            return plainly(self, 6);
+            return plainly(self, Refusal::PHASE_WRONG);
         }
         let bytes = counters_for(self);
         Reply {

@@ -7,19 +7,20 @@ use borrow.Author.Tests.{eq-eqb, ne-eqb}
 use lib.ListN.{length}
 use Rattle.octets.specs.Lengths.{keyFits}
 use Rattle.gost.specs.Gost.{subkeys}
+use Rattle.answers.specs.Answers.{aBlock, noBlock}
 use Rattle.cipher.specs.Code.{codeOf}
-use Rattle.cipher.specs.Answers.{blockFits, stringFits, noBlock, noCode, blockAnswer, codedWith, coded}
+use Rattle.cipher.specs.Answers.{blockFits, stringFits, noCode, blockAnswer, codedWith, coded}
 
 module _ (key b x : List ℕ) where
-  pub no-key : (length key ≡ 32 → ⊥) → noBlock ≡ blockAnswer key b x
+  pub no-key : (length key ≡ 32 → ⊥) → noBlock 1 ≡ blockAnswer key b x
   unfolding blockAnswer keyFits
   no-key h = simp (ne-eqb _ _ h)
 
-  pub no-block : (length b ≡ 8 → ⊥) → noBlock ≡ blockAnswer key b x
+  pub no-block : (length b ≡ 8 → ⊥) → noBlock 1 ≡ blockAnswer key b x
   unfolding blockAnswer blockFits
   no-block h = simp (ne-eqb _ _ h, and-false)
 
-  pub fits : length key ≡ 32 → length b ≡ 8 → record { code = 0; bytes = x } ≡ blockAnswer key b x
+  pub fits : length key ≡ 32 → length b ≡ 8 → aBlock x ≡ blockAnswer key b x
   unfolding blockAnswer keyFits blockFits
   fits h l = simp (eq-eqb _ _ h, eq-eqb _ _ l)
 

@@ -6,7 +6,7 @@ use lib.ListN.{length}
 use Rattle.octets.specs.Numbers.{Octets}
 use Rattle.gost.specs.Gost.{encipher, decipher}
 use Rattle.gost.proofs.Inverse.{length-encipher, length-decipher, decipher-encipher, encipher-decipher}
-use Rattle.cipher.specs.declared.BlockAnswer.{BlockAnswer}
+use Rattle.answers.specs.declared.BlockAnswer.{BlockAnswer}
 use Rattle.cipher.specs.Answers.{enciphered, deciphered}
 use Rattle.cipher.proofs.AnswerLaws.{fits}
 

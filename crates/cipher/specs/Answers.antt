@@ -6,7 +6,10 @@ use lib.Dec.{eqb}
 use lib.ListN.{length, replicate}
 use Rattle.octets.specs.Lengths.{keyFits}
 use Rattle.gost.specs.Gost.{subkeys, encipher, decipher}
-use Rattle.cipher.specs.declared.BlockAnswer.{BlockAnswer}
+use Rattle.answers.specs.declared.Refusal.the-variants.{Input}
+use Rattle.answers.specs.declared.BlockAnswer.{BlockAnswer}
+use Rattle.answers.specs.Refusals.{number}
+use Rattle.answers.specs.Answers.{aBlock, noBlock}
 use Rattle.cipher.specs.declared.CodeAnswer.{CodeAnswer}
 use Rattle.cipher.specs.Code.{codeOf}
 
@@ -17,15 +20,12 @@ blockFits b = eqb (length b) 8
 unfoldable pub stringFits : List ℕ → Bool
 stringFits s = not (eqb (length s) 0) && eqb (length s % 8) 0
 
-unfoldable pub noBlock : BlockAnswer
-noBlock = record { code = 1; bytes = replicate 8 0 }
-
 unfoldable pub noCode : CodeAnswer
-noCode = record { code = 1; bytes = replicate 4 0 }
+noCode = record { code = number Input; bytes = replicate 4 0 }
 
 -- the octets x where key and block have their lengths, else refusal 1
 unfoldable pub blockAnswer : List ℕ → List ℕ → List ℕ → BlockAnswer
-blockAnswer key b x = cond (keyFits key && blockFits b) (record { code = 0; bytes = x }) noBlock
+blockAnswer key b x = cond (keyFits key && blockFits b) (aBlock x) (noBlock (number Input))
 
 unfoldable pub enciphered : List ℕ → List ℕ → BlockAnswer
 enciphered key b = blockAnswer key b (encipher key b)

@@ -9,15 +9,11 @@ ghost use Rattle.blocks.specs.Blocks.{absorbed};
 ghost use Rattle.gost.specs.Gost.{rounds, halves, block, through, forth, back, subkeys};
 ghost use Rattle.cipher.specs.Code.{added, step};
 ghost use Rattle.cipher.specs.Answers.{enciphered, deciphered, coded, codedWith};
+pub use answers::BlockAnswer;
+use answers::Refusal;
 pub use gost::Halves;
 use gost::eight;
 use gost::reversed;
-
-// A block, or refusal 1 and zeros.
-pub struct BlockAnswer {
-    pub code: u8,
-    pub bytes: [u8; 8],
-}
 
 // An authentication code, or refusal 1 and zeros.
 pub struct CodeAnswer {
@@ -125,13 +121,13 @@ pub fn code_with(k: [u32; 8], string: &[u8]) -> CodeAnswer
 {
     if string.len() == 0 {
         return CodeAnswer {
-            code: 1,
+            code: Refusal::INPUT,
             bytes: [0; 4],
         };
     }
     if string.len() % 8 != 0 {
         return CodeAnswer {
-            code: 1,
+            code: Refusal::INPUT,
             bytes: [0; 4],
         };
     }
@@ -154,13 +150,13 @@ pub fn encipher(key: &[u8], block: &[u8]) -> BlockAnswer
 {
     if key.len() != 32 {
         return BlockAnswer {
-            code: 1,
+            code: Refusal::INPUT,
             bytes: [0; 8],
         };
     }
     if block.len() != 8 {
         return BlockAnswer {
-            code: 1,
+            code: Refusal::INPUT,
             bytes: [0; 8],
         };
     }
@@ -174,13 +170,13 @@ pub fn decipher(key: &[u8], block: &[u8]) -> BlockAnswer
 {
     if key.len() != 32 {
         return BlockAnswer {
-            code: 1,
+            code: Refusal::INPUT,
             bytes: [0; 8],
         };
     }
     if block.len() != 8 {
         return BlockAnswer {
-            code: 1,
+            code: Refusal::INPUT,
             bytes: [0; 8],
         };
     }
@@ -194,7 +190,7 @@ pub fn code(key: &[u8], string: &[u8]) -> CodeAnswer
 {
     if key.len() != 32 {
         return CodeAnswer {
-            code: 1,
+            code: Refusal::INPUT,
             bytes: [0; 4],
         };
     }

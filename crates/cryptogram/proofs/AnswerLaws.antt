@@ -17,7 +17,8 @@ use Rattle.cryptogram.specs.declared.Kind.the-variants.{Arqc, Tc, Aac}
 use Rattle.cryptogram.specs.declared.KindRead.{KindRead}
 use Rattle.cryptogram.specs.declared.KindRead.the-variants.{Known, Unknown}
 use Rattle.cryptogram.specs.Cryptogram.{twice, doubleCode, cryptogramOf, arpcOf}
-use Rattle.cryptogram.specs.Answers.{yes, no, cryptogramAnswer, arpcAnswer, kindNumber, kindOf, kindCode, kindValues, ReadsKind}
+use Rattle.answers.specs.Answers.{aBlock, noBlock}
+use Rattle.cryptogram.specs.Answers.{cryptogramAnswer, arpcAnswer, kindNumber, kindOf, kindCode, kindValues, ReadsKind}
 use Rattle.cryptogram.proofs.DataLaws.{data-length}
 
 -- the code of 72 bytes comes with no refusal
@@ -30,32 +31,32 @@ pub code-twice : (key s : List ℕ) → length key ≡ 32 → length s ≡ 72 �
 code-twice key s k e r w = code-twice-with (subkeys 8 key) s e r (w ∙ sym (code-key key s k))
 
 module _ (key : List ℕ) (kind : Kind) (atc : ℕ) (d : List ℕ) where
-  pub no-key : (length key ≡ 32 → ⊥) → no ≡ cryptogramAnswer key kind atc d
+  pub no-key : (length key ≡ 32 → ⊥) → noBlock 1 ≡ cryptogramAnswer key kind atc d
   unfolding cryptogramAnswer keyFits
   no-key h = simp (ne-eqb _ _ h)
 
-  pub no-data : (length d ≡ 65 → ⊥) → no ≡ cryptogramAnswer key kind atc d
+  pub no-data : (length d ≡ 65 → ⊥) → noBlock 1 ≡ cryptogramAnswer key kind atc d
   unfolding cryptogramAnswer
   no-data h = simp (data-length, ne-eqb _ _ h, and-false)
 
-  pub made : length key ≡ 32 → length d ≡ 65 → yes (cryptogramOf (subkeys 8 key) kind atc d) ≡ cryptogramAnswer key kind atc d
+  pub made : length key ≡ 32 → length d ≡ 65 → aBlock (cryptogramOf (subkeys 8 key) kind atc d) ≡ cryptogramAnswer key kind atc d
   unfolding cryptogramAnswer keyFits
   made k e = simp (data-length, eq-eqb _ _ k, eq-eqb _ _ e)
 
 module _ (key c u : List ℕ) where
-  pub arpc-no-key : (length key ≡ 32 → ⊥) → no ≡ arpcAnswer key c u
+  pub arpc-no-key : (length key ≡ 32 → ⊥) → noBlock 1 ≡ arpcAnswer key c u
   unfolding arpcAnswer keyFits
   arpc-no-key h = simp (ne-eqb _ _ h)
 
-  pub arpc-no-cryptogram : (length c ≡ 8 → ⊥) → no ≡ arpcAnswer key c u
+  pub arpc-no-cryptogram : (length c ≡ 8 → ⊥) → noBlock 1 ≡ arpcAnswer key c u
   unfolding arpcAnswer
   arpc-no-cryptogram h = simp (ne-eqb _ _ h, and-false)
 
-  pub arpc-no-csu : (length u ≡ 4 → ⊥) → no ≡ arpcAnswer key c u
+  pub arpc-no-csu : (length u ≡ 4 → ⊥) → noBlock 1 ≡ arpcAnswer key c u
   unfolding arpcAnswer
   arpc-no-csu h = simp (ne-eqb _ _ h, and-false)
 
-  pub arpc-made : length key ≡ 32 → length c ≡ 8 → length u ≡ 4 → yes (arpcOf (subkeys 8 key) c u) ≡ arpcAnswer key c u
+  pub arpc-made : length key ≡ 32 → length c ≡ 8 → length u ≡ 4 → aBlock (arpcOf (subkeys 8 key) c u) ≡ arpcAnswer key c u
   unfolding arpcAnswer keyFits
   arpc-made k e f = simp (eq-eqb _ _ k, eq-eqb _ _ e, eq-eqb _ _ f)
 

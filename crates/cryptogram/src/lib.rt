@@ -5,7 +5,10 @@ ghost use lib.ListN.{length, replicate};
 ghost use Rattle.gost.specs.Gost.{subkeys};
 ghost use Rattle.cryptogram.specs.Data.{marked};
 ghost use Rattle.cryptogram.specs.Cryptogram.{twice as written_twice, doubleCode, string, cryptogramOf, arpcString, arpcOf};
-ghost use Rattle.cryptogram.specs.Answers.{no, cryptogramAnswer, arpcAnswer, kindNumber, ReadsKind};
+ghost use Rattle.cryptogram.specs.Answers.{cryptogramAnswer, arpcAnswer, kindNumber, ReadsKind};
+use answers::BlockAnswer;
+use answers::Refusal;
+use answers::no_block;
 
 // The kind of a cryptogram that answers the first command.
 pub enum Kind {
@@ -18,12 +21,6 @@ pub enum Kind {
 pub enum KindRead {
     Known(Kind),
     Unknown,
-}
-
-// A cryptogram, or refusal 1 and zeros.
-pub struct Answer {
-    pub code: u8,
-    pub bytes: [u8; 8],
 }
 
 // A kind's number, as a card tells it to a terminal.
@@ -153,43 +150,33 @@ pub fn arpc_with(k: [u32; 8], cryptogram: [u8; 8], csu: [u8; 4]) -> [u8; 8]
     double_code_with(k, arpc_string(&cryptogram, &csu))
 }
 
-// Refusal 1 and zeros.
-fn refused() -> Answer
-    ensures { λ r. ⌜ r ≡ no ⌝ }
-{
-    Answer {
-        code: 1,
-        bytes: [0; 8],
-    }
-}
-
 // A cryptogram under a session key of 32 bytes, of 65 bytes of data; other lengths: 1.
-pub fn cryptogram(key: &[u8], kind: Kind, counter: u16, d: &[u8]) -> Answer
+pub fn cryptogram(key: &[u8], kind: Kind, counter: u16, d: &[u8]) -> BlockAnswer
     ensures { λ r. ⌜ r ≡ cryptogramAnswer (now (key .entry)) kind counter (now (d .entry)) ⌝ }
 {
     if key.len() != 32 {
-        return refused();
+        return no_block(Refusal::INPUT);
     }
     if d.len() != 65 {
-        return refused();
+        return no_block(Refusal::INPUT);
     }
     let bytes = double_code(key, string_of(kind, counter, d));
-    Answer { code: 0, bytes }
+    BlockAnswer { code: 0, bytes }
 }
 
 // The ARPC under a session key of 32 bytes, of a cryptogram of 8 and a CSU of 4; other lengths: 1.
-pub fn arpc(key: &[u8], cryptogram: &[u8], csu: &[u8]) -> Answer
+pub fn arpc(key: &[u8], cryptogram: &[u8], csu: &[u8]) -> BlockAnswer
     ensures { λ r. ⌜ r ≡ arpcAnswer (now (key .entry)) (now (cryptogram .entry)) (now (csu .entry)) ⌝ }
 {
     if key.len() != 32 {
-        return refused();
+        return no_block(Refusal::INPUT);
     }
     if cryptogram.len() != 8 {
-        return refused();
+        return no_block(Refusal::INPUT);
     }
     if csu.len() != 4 {
-        return refused();
+        return no_block(Refusal::INPUT);
     }
     let bytes = double_code(key, arpc_string(cryptogram, csu));
-    Answer { code: 0, bytes }
+    BlockAnswer { code: 0, bytes }
 }

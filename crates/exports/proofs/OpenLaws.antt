@@ -8,7 +8,7 @@ use Rattle.shapes.specs.declared.Opened.{Opened}
 use Rattle.shapes.specs.declared.Opened.the-variants.{Data, Refused}
 use Rattle.shapes.specs.Shape.{shape, tagOf}
 use Rattle.shapes.specs.Length.{lengthOf, placeOf}
-use Rattle.shapes.specs.Answers.{answer, shaped, number, values}
+use Rattle.shapes.specs.Answers.{answer, shaped, openedNumber, openedValues}
 use Rattle.shapes.proofs.AnswerLaws.{Told, tells-shaped, told-data, shaped-good}
 use Rattle.message.specs.Code.{given, codeFits}
 use Rattle.message.specs.Answers.{openNumber, opened}
@@ -60,7 +60,7 @@ module _ (key header m : List ℕ) where
   -- what the two ways of opening give to the slice lent for it
   pub give-data : (o : Opened) (t p n : ℕ) → o ≡ opened key header m → o ≡ Data t p n → {l : List ℕ} {r : ℕ} {z : List ℕ}
       → Given 3 0 (t ∷ p % 256 ∷ n % 256 ∷ []) l r z → GivenOpened (opened key header m) l r z
-  unfolding number values
+  unfolding openedNumber openedValues
   give-data o t p n e f {l} {r} {z} g =
       let w = opened-data o t p n e f in
       let a : p % 256 ≡ p = omega (arith, w .small-place) in
@@ -70,6 +70,6 @@ module _ (key header m : List ℕ) where
 
   pub give-number : (o : Opened) (x : ℕ) → o ≡ opened key header m → o ≡ Refused x → (s : List ℕ) {l : List ℕ} {r : ℕ} {z : List ℕ}
       → Given 3 x s l r z → GivenOpened (opened key header m) l r z
-  unfolding number values
+  unfolding openedNumber openedValues
   give-number o x e f s {l} {r} {z} g =
       subst (λ (y : Opened). GivenOpened y l r z) (sym f ∙ e) (given-any 3 x s [] l r z (opened-refused o x e f) g)

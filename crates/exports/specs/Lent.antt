@@ -5,22 +5,23 @@ use mathlib.Core.Bool.{_&&_, cond}
 use mathlib.Core.List.{List, _∷_}
 use lib.Dec.{eqb}
 use lib.ListN.{length, take}
-use Rattle.cipher.specs.declared.BlockAnswer.{BlockAnswer}
+use Rattle.answers.specs.declared.Refusal.the-variants.{Input}
+use Rattle.answers.specs.declared.BlockAnswer.{BlockAnswer}
+use Rattle.answers.specs.Refusals.{number}
+use Rattle.answers.specs.Answers.{noBlock}
 use Rattle.cipher.specs.declared.CodeAnswer.{CodeAnswer}
 use Rattle.derive.specs.declared.KeyAnswer.{KeyAnswer}
 use Rattle.keys.specs.declared.IdnAnswer.{IdnAnswer}
-use Rattle.pin.specs.declared.PinBlock.{PinBlock}
 use Rattle.pin.specs.declared.PinRead.{PinRead}
-use Rattle.cryptogram.specs.declared.Answer.{Answer}
 use Rattle.cryptogram.specs.declared.KindRead.{KindRead}
 use Rattle.cryptogram.specs.declared.KindRead.the-variants.{Known, Unknown}
-use Rattle.cryptogram.specs.Answers.{cryptogramAnswer, no}
+use Rattle.cryptogram.specs.Answers.{cryptogramAnswer}
 use Rattle.shapes.specs.declared.Opened.{Opened}
-use Rattle.shapes.specs.Answers.{number, values}
+use Rattle.shapes.specs.Answers.{openedNumber, openedValues}
 
 -- the number returned: 1 for a lent slice that is not n bytes long, else the answer's own
 unfoldable pub numberOf : ℕ → ℕ → List ℕ → ℕ
-numberOf n code lent = cond (eqb (length lent) n) code 1
+numberOf n code lent = cond (eqb (length lent) n) code (number Input)
 
 -- the slice afterwards: the answer's bytes where it is accepted, and as it was where it is refused
 unfoldable pub bytesAfter : ℕ → ℕ → List ℕ → List ℕ → List ℕ
@@ -45,21 +46,15 @@ GivenCode a lent r after = Given 4 (a .code) (a .bytes) lent r after
 abbrev pub GivenIdn : IdnAnswer → List ℕ → ℕ → List ℕ → Type 0
 GivenIdn a lent r after = Given (length lent) (a .code) (take (length lent) (a .bytes)) lent r after
 
-abbrev pub GivenPin : PinBlock → List ℕ → ℕ → List ℕ → Type 0
-GivenPin a lent r after = Given 8 (a .code) (a .bytes) lent r after
-
 -- what a PIN block holds: the number of digits, then the twelve places
 abbrev pub GivenRead : PinRead → List ℕ → ℕ → List ℕ → Type 0
 GivenRead a lent r after = Given 13 (a .code) (a .count ∷ a .pin) lent r after
 
-abbrev pub GivenAnswer : Answer → List ℕ → ℕ → List ℕ → Type 0
-GivenAnswer a lent r after = Given 8 (a .code) (a .bytes) lent r after
-
 -- a cryptogram whose kind is named by number: 1 for an unknown one
-unfoldable pub byNumber : List ℕ → KindRead → ℕ → List ℕ → Answer
+unfoldable pub byNumber : List ℕ → KindRead → ℕ → List ℕ → BlockAnswer
 byNumber key (Known kind) atc d = cryptogramAnswer key kind atc d
-byNumber key Unknown atc d = no
+byNumber key Unknown atc d = noBlock (number Input)
 
 -- a message opened: its tag, and the place and length of its data
 abbrev pub GivenOpened : Opened → List ℕ → ℕ → List ℕ → Type 0
-GivenOpened o lent r after = Given 3 (number o) (values o) lent r after
+GivenOpened o lent r after = Given 3 (openedNumber o) (openedValues o) lent r after

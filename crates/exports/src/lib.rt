@@ -8,8 +8,9 @@ ghost use Rattle.keys.specs.Answers.{cardKey, cardKeyPacked, sessionKey, script
 ghost use Rattle.cards.specs.Cards.{cardsNumber, cardsAfter};
 ghost use Rattle.pin.specs.Answers.{writePin, readPin};
 ghost use Rattle.cryptogram.specs.Answers.{kindOf, arpcAnswer};
-ghost use Rattle.exports.specs.Lent.{Given, GivenKey, GivenBlock, GivenCode, GivenIdn, GivenPin, GivenRead, GivenAnswer, GivenOpened, byNumber};
+ghost use Rattle.exports.specs.Lent.{Given, GivenKey, GivenBlock, GivenCode, GivenIdn, GivenRead, GivenOpened, byNumber};
 ghost use Rattle.message.specs.Answers.{opened, wrapped, Wrote};
+use answers::Refusal;
 use cryptogram::KindRead;
 use message::Opened;
 
@@ -18,7 +19,7 @@ fn give(code: u8, bytes: &[u8], out: &mut [u8]) -> u8
     ensures { λ r. ⌜ Given (length (now (bytes .entry))) code (now (bytes .entry)) (now (out .entry)) r (now (out .exit)) ⌝ }
 {
     if out.len() != bytes.len() {
-        return 1;
+        return Refusal::INPUT;
     }
     if code != 0 {
         return code;
@@ -140,7 +141,7 @@ pub extern "C" fn box_idn(key: &[u8], counter: u16, out: &mut [u8]) -> u8
 {
     let n = out.len();
     if n > 8 {
-        return 1;
+        return Refusal::INPUT;
     }
     let r = keys::idn(key, counter, n as u8);
     let bytes = r.bytes;
@@ -150,7 +151,7 @@ pub extern "C" fn box_idn(key: &[u8], counter: u16, out: &mut [u8]) -> u8
 // A PIN block in clear of 4 to 12 digits, one a byte. 1: the slice; 12: the PIN.
 #[no_mangle]
 pub extern "C" fn box_write_pin(pin: &[u8], out: &mut [u8]) -> u8
-    ensures { λ r. ⌜ GivenPin (writePin (now (pin .entry))) (now (out .entry)) r (now (out .exit)) ⌝ }
+    ensures { λ r. ⌜ GivenBlock (writePin (now (pin .entry))) (now (out .entry)) r (now (out .exit)) ⌝ }
 {
     let r = pin::write_pin(pin);
     let bytes = r.bytes;
@@ -185,11 +186,11 @@ pub extern "C" fn box_read_pin(block: &[u8], out: &mut [u8]) -> u8
 // The cryptogram of 65 data bytes, its kind by number (80 ARQC, 40 TC, 00 AAC). 1: a length or the kind.
 #[no_mangle]
 pub extern "C" fn box_cryptogram(key: &[u8], kind: u8, counter: u16, d: &[u8], out: &mut [u8]) -> u8
-    ensures { λ r. ⌜ GivenAnswer (byNumber (now (key .entry)) (kindOf kind) counter (now (d .entry))) (now (out .entry)) r (now (out .exit)) ⌝ }
+    ensures { λ r. ⌜ GivenBlock (byNumber (now (key .entry)) (kindOf kind) counter (now (d .entry))) (now (out .entry)) r (now (out .exit)) ⌝ }
 {
     let read = cryptogram::kind_of(kind);
     let KindRead::Known(k) = read else {
-        return 1;
+        return Refusal::INPUT;
     };
     let r = cryptogram::cryptogram(key, k, counter, d);
     let bytes = r.bytes;
@@ -199,7 +200,7 @@ pub extern "C" fn box_cryptogram(key: &[u8], kind: u8, counter: u16, d: &[u8], o
 // The issuer's answer to a cryptogram of 8 bytes with a CSU of 4. 1: a length.
 #[no_mangle]
 pub extern "C" fn box_arpc(key: &[u8], cryptogram: &[u8], csu: &[u8], out: &mut [u8]) -> u8
-    ensures { λ r. ⌜ GivenAnswer (arpcAnswer (now (key .entry)) (now (cryptogram .entry)) (now (csu .entry))) (now (out .entry)) r (now (out .exit)) ⌝ }
+    ensures { λ r. ⌜ GivenBlock (arpcAnswer (now (key .entry)) (now (cryptogram .entry)) (now (csu .entry))) (now (out .entry)) r (now (out .exit)) ⌝ }
 {
     let r = cryptogram::arpc(key, cryptogram, csu);
     let bytes = r.bytes;

@@ -4,6 +4,8 @@ use mathlib.Core.Bool.{not, _&&_, cond}
 use mathlib.Core.List.{List}
 use lib.Dec.{eqb}
 use lib.ListN.{length, take, drop, getD}
+use Rattle.answers.specs.declared.Refusal.the-variants.{Input, PhaseWrong, Unreadable}
+use Rattle.answers.specs.Refusals.{number}
 use Rattle.octets.specs.Numbers.{be}
 use Rattle.transaction.specs.Transaction.{isOpen}
 use Rattle.card.specs.declared.Card.{Card}
@@ -24,7 +26,7 @@ unfoldable pub personalisedBy : List ℕ → Reply
 personalisedBy s =
     cond (eqb (length s) 115)
     (personalised (part 0 32 s) (part 32 32 s) (part 64 32 s) (be (part 96 2 s)) (part 98 8 s) (getD s 106 0) (part 107 8 s))
-    (plain blank 1)
+    (plain blank (number Input))
 
 -- "A second accepted 00 starts a new history"; refused, it leaves the record
 unfoldable pub starts : Held → Reply → Answer
@@ -32,7 +34,7 @@ starts h p = cond (eqb (p .code) 0) (numbered (holding (p .card)) 0) (numbered h
 
 -- 04 and 06 with bytes after: "phase comes first", then 1
 unfoldable pub overlong : Card → Reply
-overlong r = plain r (cond (sound r && not (isOpen (r .transaction .phase))) 6 1)
+overlong r = plain r (cond (sound r && not (isOpen (r .transaction .phase))) (number PhaseWrong) (number Input))
 
 -- a frame with no bytes after its first
 abbrev pub bare : List ℕ → Reply → Reply → Reply
@@ -45,11 +47,11 @@ called r f s =
     (cond (eqb f 2) (step r (IssuerAnswer (take 8 s) (drop 8 s)))
     (cond (eqb f 3) (step r (Script (take 4 s) (drop 4 s)))
     (cond (eqb f 4) (bare s (step r Close) (overlong r))
-    (cond (eqb f 5) (bare s (step r Withdraw) (plain r 1)) (bare s (step r Counters) (overlong r))))))
+    (cond (eqb f 5) (bare s (step r Withdraw) (plain r (number Input))) (bare s (step r Counters) (overlong r))))))
 
 -- "Before a record exists, frames 01 to 06 answer 6."
 unfoldable pub calling : Held → ℕ → List ℕ → Answer
-calling h f s = cond (h .exists) (replied f (called (h .card) f s)) (numbered h 6)
+calling h f s = cond (h .exists) (replied f (called (h .card) f s)) (numbered h (number PhaseWrong))
 
 -- a frame: its first byte, and the rest
 unfoldable pub framed : Held → ℕ → List ℕ → Answer
@@ -57,4 +59,4 @@ framed h f s = cond (eqb f 0) (starts h (personalisedBy s)) (calling h f s)
 
 -- a line
 unfoldable pub answerTo : Held → List ℕ → Answer
-answerTo h l = cond (readable l) (framed h (getD (octetsOf l) 0 0) (drop 1 (octetsOf l))) (numbered h 13)
+answerTo h l = cond (readable l) (framed h (getD (octetsOf l) 0 0) (drop 1 (octetsOf l))) (numbered h (number Unreadable))

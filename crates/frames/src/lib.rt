@@ -1,4 +1,5 @@
 // The clerk's trace, one line: a hexadecimal frame, and what answers it.
+use answers::Refusal;
 use card::Card;
 use card::Reply;
 pub use lines::Held;
@@ -85,7 +86,7 @@ fn personalise(held: Held, rest: &[u8]) -> Said
     ensures { λ r. ⌜ r ≡ said (starts held (personalisedBy (now (rest .entry)))) ⌝ }
 {
     if rest.len() != 115 {
-        return lines::short(held, 1);
+        return lines::short(held, Refusal::INPUT);
     }
     let p = fresh(rest);
     if p.code != 0 {
@@ -112,10 +113,10 @@ fn too_long(card: Card) -> Reply
     ensures { λ r. ⌜ r ≡ overlong card ⌝ }
 {
     let closed = card.close();
-    if closed.code == 6 {
-        return refused(card, 6);
+    if closed.code == Refusal::PHASE_WRONG {
+        return refused(card, Refusal::PHASE_WRONG);
     }
-    refused(card, 1)
+    refused(card, Refusal::INPUT)
 }
 
 // Frame 02 after its first byte: ARPC and CSU.
@@ -152,7 +153,7 @@ fn withdraw(card: Card, rest: &[u8]) -> Reply
     ensures { λ r. ⌜ r ≡ bare (now (rest .entry)) (step card Withdraw) (plain card 1) ⌝ }
 {
     if rest.len() != 0 {
-        return refused(card, 1);
+        return refused(card, Refusal::INPUT);
     }
     card.withdraw()
 }
@@ -188,7 +189,7 @@ fn frame(held: Held, tag: u8, rest: &[u8]) -> Said
         return personalise(held, rest);
     }
     if !held.exists {
-        return lines::short(held, 6);
+        return lines::short(held, Refusal::PHASE_WRONG);
     }
     let card = held.card;
     lines::replied(tag, call(card, tag, rest))
@@ -202,7 +203,7 @@ fn read(held: Held, text: &[u8]) -> Said
     let bytes = octets_of(text);
     let tag = bytes[0];
     if tag > LAST_FRAME {
-        return lines::short(held, 13);
+        return lines::short(held, Refusal::UNREADABLE);
     }
     let m = text.len() / 2;
     frame(held, tag, &bytes[1..m])
@@ -213,11 +214,11 @@ pub fn answer(held: Held, line: [u8; KEPT], n: usize) -> Said
     ensures { λ r. ⌜ r ≡ said (answerTo held (take n line)) ⌝ }
 {
     if n > LONGEST {
-        return lines::short(held, 13);
+        return lines::short(held, Refusal::UNREADABLE);
     }
     let text = &line[..n];
     if !lines::is_hexadecimal(text) {
-        return lines::short(held, 13);
+        return lines::short(held, Refusal::UNREADABLE);
     }
     read(held, text)
 }

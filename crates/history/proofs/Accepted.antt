@@ -7,25 +7,14 @@ use mathlib.Core.List.{List}
 use mathlib.Core.Logic.{_↔_}
 use lib.Dec.{eqb}
 use borrow.Author.Tests.{eqb-false, eq-eqb, ne-eqb}
+use Rattle.answers.specs.Refusals.{number}
+use Rattle.answers.proofs.Laws.{not-zero}
 use Rattle.card.specs.declared.Card.{Card}
 use Rattle.card.specs.declared.Reply.{Reply}
 use Rattle.card.specs.Record.{sound}
-use Rattle.card.specs.Calls.{Refusal, input, shapeWrong, notListed, phaseWrong, counterFull, codeDiffers, pinFormat, spoiltClosed, arpcDiffers, number}
 use Rattle.card.specs.Calls.{Call, Script, Verdict, refuse, accept, judgedScript, judged, due, after, plain, step}
 use Rattle.history.specs.Demand2.{Accepts, Differs, DiffersExactly}
 use Rattle.history.proofs.Change.{same-code, format-so, Change, change, step-by, early, spoiled, differed, took, quiet}
-
--- a refusal is not 0
-pub not-zero : (q : Refusal) → eqb (number q) 0 ≡ false
-not-zero input = refl
-not-zero shapeWrong = refl
-not-zero notListed = refl
-not-zero phaseWrong = refl
-not-zero counterFull = refl
-not-zero codeDiffers = refl
-not-zero pinFormat = refl
-not-zero spoiltClosed = refl
-not-zero arpcDiffers = refl
 
 -- 01: "Any unsound record gets 1 ahead of all other checks and comes back unchanged, Script included."
 pub unsound-law : (r : Card) (c : Call) → sound r ≡ false → step r c ≡ plain r 1

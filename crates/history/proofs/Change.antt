@@ -6,6 +6,9 @@ use mathlib.Core.Bool.{Bool, true, false, not, _&&_, _||_, true≢false, false�
 use lib.ListN.{length}
 use lib.Dec.{eqb}
 use borrow.Author.Tests.{eqb-true, eqb-false, eq-eqb, not-false}
+use Rattle.answers.specs.declared.Refusal.{Refusal}
+use Rattle.answers.specs.declared.Refusal.the-variants.{Input, ShapeWrong, NotListed, PhaseWrong, CounterFull, CodeDiffers, PinFormat, SpoiltClosed, ArpcDiffers}
+use Rattle.answers.specs.Refusals.{number}
 use Rattle.octets.specs.Same.{same}
 use Rattle.shapes.specs.declared.command.Command.{Command}
 use Rattle.shapes.specs.declared.command.Command.the-variants.{SetPin, SetMark, ClearMark}
@@ -14,6 +17,7 @@ use Rattle.shapes.specs.declared.command.Listed.the-variants.{One, Unlisted}
 use Rattle.shapes.specs.Length.{lengthOf}
 use Rattle.shapes.specs.Shape.{tagOf, dataOf, shape as hasShape}
 use Rattle.shapes.specs.Command.{commandOf}
+use Rattle.shapes.proofs.CommandLaws.{why-unlisted}
 use Rattle.derive.specs.Derivation.{derived, cardLabel}
 use Rattle.pin.specs.declared.PinRead.{PinRead}
 use Rattle.pin.specs.Answers.{decipherPin}
@@ -25,12 +29,12 @@ use Rattle.card.specs.declared.Card.{Card}
 use Rattle.card.specs.declared.Reply.{Reply}
 use Rattle.card.specs.Record.{sound as isSound, withTransaction, withCounters, oneFailed}
 use Rattle.card.specs.Keys.{smiKey, smcKey}
-use Rattle.card.specs.Calls.{Call, Open, IssuerAnswer, Script, Close, Withdraw, Counters, Refusal, input, shapeWrong, notListed, phaseWrong, counterFull, codeDiffers, pinFormat, spoiltClosed, arpcDiffers, number}
-use Rattle.card.specs.Calls.{Verdict, refuse, strikes, first, read, unlisted, unread, judgedScript, arpcFor, judged, only, gives, accepted, refused, dueBy, afterBy, due, after, reply, plain, step}
+use Rattle.card.specs.Calls.{Call, Open, IssuerAnswer, Script, Close, Withdraw, Counters}
+use Rattle.card.specs.Calls.{Verdict, refuse, strikes, firstStruck, read, unlisted, whyUnlisted, unread, judgedScript, arpcFor, judged, only, gives, accepted, refused, dueBy, afterBy, due, after, reply, plain, step}
 use Rattle.history.specs.Demand2.{Accepts, Differs}
 
-no-command : (c : Command) → Unlisted ≡ One c → ⊥
-no-command c e = true≢false (ap unlisted e)
+no-command : (q : Refusal) (c : Command) → Unlisted q ≡ One c → ⊥
+no-command q c e = true≢false (ap unlisted e)
 
 -- the table's words for the checks of a message, and the demands'
 unread-so : (c : Command) (x : PinRead) → (c ≡ SetPin → x .code ≡ 0) → unread (One c) x ≡ false
@@ -95,10 +99,10 @@ module _ (r : Card) (ok : isSound r ≡ true) where
   of-open d = go (isOpen (r .transaction .phase)) (eqb (length d) 65) (eqb (r .atc) 65535 || eqb (r .counters .session) 65535) refl
     where
       go : (o l f : Bool) → isOpen (r .transaction .phase) ≡ o
-          → Change r (Open d) (by r (Open d) (first (strikes o phaseWrong ∷ strikes (not l) input ∷ strikes f counterFull ∷ [])))
-      go true l f e = quiet phaseWrong refl
-      go false false f e = quiet input refl
-      go false true true e = quiet counterFull refl
+          → Change r (Open d) (by r (Open d) (firstStruck (strikes o PhaseWrong ∷ strikes (not l) Input ∷ strikes f CounterFull ∷ [])))
+      go true l f e = quiet PhaseWrong refl
+      go false false f e = quiet Input refl
+      go false true true e = quiet CounterFull refl
       go false true false e = opened e
 
   of-answer : (x u : List ℕ) → Change r (IssuerAnswer x u) (by r (IssuerAnswer x u) (judged r (IssuerAnswer x u)))
@@ -106,10 +110,10 @@ module _ (r : Card) (ok : isSound r ≡ true) where
   of-answer x u = go (isArqc (r .transaction .phase)) (eqb (length x) 8 && eqb (length u) 4) (same x (arpcFor r u)) refl
     where
       go : (o l f : Bool) → isArqc (r .transaction .phase) ≡ o
-          → Change r (IssuerAnswer x u) (by r (IssuerAnswer x u) (first (strikes (not o) phaseWrong ∷ strikes (not l) input ∷ strikes (not f) arpcDiffers ∷ [])))
-      go false l f e = quiet phaseWrong refl
-      go true false f e = quiet input refl
-      go true true false e = quiet arpcDiffers refl
+          → Change r (IssuerAnswer x u) (by r (IssuerAnswer x u) (firstStruck (strikes (not o) PhaseWrong ∷ strikes (not l) Input ∷ strikes (not f) ArpcDiffers ∷ [])))
+      go false l f e = quiet PhaseWrong refl
+      go true false f e = quiet Input refl
+      go true true false e = quiet ArpcDiffers refl
       go true true true e = answered (arqc-open (r .transaction .phase) e)
 
   of-close : Change r Close (by r Close (judged r Close))
@@ -117,7 +121,7 @@ module _ (r : Card) (ok : isSound r ≡ true) where
   of-close = go (isOpen (r .transaction .phase)) (r .transaction .spoilt) refl refl
     where
       go : (o s : Bool) → isOpen (r .transaction .phase) ≡ o → r .transaction .spoilt ≡ s
-          → Change r Close (by r Close (first (strikes (not o) phaseWrong ∷ strikes s spoiltClosed ∷ [])))
+          → Change r Close (by r Close (firstStruck (strikes (not o) PhaseWrong ∷ strikes s SpoiltClosed ∷ [])))
       go false s e p = idle e
       go true true e p = dropped e p
       go true false e p = closed e p
@@ -126,8 +130,8 @@ module _ (r : Card) (ok : isSound r ≡ true) where
   unfolding judged
   of-counters = go (isOpen (r .transaction .phase))
     where
-      go : (o : Bool) → Change r Counters (by r Counters (first (strikes (not o) phaseWrong ∷ [])))
-      go false = quiet phaseWrong refl
+      go : (o : Bool) → Change r Counters (by r Counters (firstStruck (strikes (not o) PhaseWrong ∷ [])))
+      go false = quiet PhaseWrong refl
       go true = counted
 
   of-withdraw : Change r Withdraw (by r Withdraw (judged r Withdraw))
@@ -135,13 +139,13 @@ module _ (r : Card) (ok : isSound r ≡ true) where
   of-withdraw = withdrew
 
   module _ (h m : List ℕ) where
-    idles : isOpen (r .transaction .phase) ≡ false → Change r (Script h m) (by r (Script h m) (refuse phaseWrong))
+    idles : isOpen (r .transaction .phase) ≡ false → Change r (Script h m) (by r (Script h m) (refuse PhaseWrong))
     idles e = rw e (early e)
 
     spoils : (q : Refusal) → isOpen (r .transaction .phase) ≡ true → eqb (number q) 8 ≡ false → (Accepts r h m → ⊥) → Change r (Script h m) (by r (Script h m) (refuse q))
     spoils q o n f = rw (o, n) (spoiled q o n f)
 
-    differs : Differs r h m → (Accepts r h m → ⊥) → Change r (Script h m) (by r (Script h m) (refuse codeDiffers))
+    differs : Differs r h m → (Accepts r h m → ⊥) → Change r (Script h m) (by r (Script h m) (refuse CodeDiffers))
     differs w f = rw (w .phase) (differed w f)
 
     of-script : Change r (Script h m) (by r (Script h m) (judged r (Script h m)))
@@ -154,20 +158,21 @@ module _ (r : Card) (ok : isSound r ≡ true) where
             → eqb (r .counters .failures) 65535 ≡ f → codeFits (smiKey r) h m ≡ k → unread (commandOf h (tagOf m) (lengthOf m)) (read r h m .block) ≡ p
             → Change r (Script h m)
             (by r (Script h m)
-            (first
-            (strikes (not o) phaseWrong
-            ∷ strikes (not l) input
-            ∷ strikes (not x) shapeWrong
-            ∷ strikes (unlisted q) notListed
-            ∷ strikes f counterFull
-            ∷ strikes (not k) codeDiffers
-            ∷ strikes p pinFormat
+            (firstStruck
+            (strikes (not o) PhaseWrong
+            ∷ strikes (not l) Input
+            ∷ strikes (not x) ShapeWrong
+            ∷ strikes (unlisted q) (whyUnlisted q)
+            ∷ strikes f CounterFull
+            ∷ strikes (not k) CodeDiffers
+            ∷ strikes p PinFormat
             ∷ [])))
         go false l x q f k p eo el ex eq ef ek ep = idles eo
-        go true false x q f k p eo el ex eq ef ek ep = spoils input eo refl (λ a. eqb-false _ _ el (a .header))
-        go true true false q f k p eo el ex eq ef ek ep = spoils shapeWrong eo refl (λ a. false≢true (sym ex ∙ a .shape))
-        go true true true Unlisted f k p eo el ex eq ef ek ep = spoils notListed eo refl (λ a. no-command (a .command) (sym eq ∙ a .instruction))
-        go true true true (One c) true k p eo el ex eq ef ek ep = spoils counterFull eo refl (λ a. a .counter (eqb-true _ _ ef))
+        go true false x q f k p eo el ex eq ef ek ep = spoils Input eo refl (λ a. eqb-false _ _ el (a .header))
+        go true true false q f k p eo el ex eq ef ek ep = spoils ShapeWrong eo refl (λ a. false≢true (sym ex ∙ a .shape))
+        go true true true (Unlisted w) f k p eo el ex eq ef ek ep =
+            spoils w eo (ap (λ (q : Refusal). eqb (number q) 8) (why-unlisted h (tagOf m) (lengthOf m) w eq)) (λ a. no-command w (a .command) (sym eq ∙ a .instruction))
+        go true true true (One c) true k p eo el ex eq ef ek ep = spoils CounterFull eo refl (λ a. a .counter (eqb-true _ _ ef))
         go true true true (One c) false false p eo el ex eq ef ek ep =
             differs
             (record {
@@ -182,7 +187,7 @@ module _ (r : Card) (ok : isSound r ≡ true) where
             })
             (λ a. false≢true (sym ek ∙ same-code r h m ∙ a .code))
         go true true true (One c) false true true eo el ex eq ef ek ep =
-            spoils pinFormat eo refl (λ a. true≢false (sym ep ∙ rw (a .instruction) (format-so a)))
+            spoils PinFormat eo refl (λ a. true≢false (sym ep ∙ rw (a .instruction) (format-so a)))
         go true true true (One c) false true false eo el ex eq ef ek ep =
             took
             (record {

@@ -7,6 +7,7 @@ use lib.Dec.{leb, eqb}
 use lib.ListN.{replicate}
 use native.Mathlib.Omega.{arith}
 use borrow.Author.Tests.{not-true, not-false, eqb-true, eqb-false, ne-eqb}
+use Rattle.answers.specs.declared.Refusal.the-variants.{Input, PinFormat}
 use Rattle.octets.specs.Same.{same}
 use Rattle.octets.proofs.SameLaws.{same-true}
 use Rattle.shapes.specs.declared.command.Command.{Command}
@@ -25,7 +26,7 @@ use Rattle.transaction.specs.Transaction.{isOpen, isUnmarked, none, pendingFits
 use Rattle.card.specs.declared.Card.{Card}
 use Rattle.card.specs.declared.Reply.{Reply}
 use Rattle.card.specs.Record.{sound, kept, withTransaction, withKept}
-use Rattle.card.specs.Calls.{Call, Withdraw, input, pinFormat, read, Order, newPin, newMark, orders, pend, pendAll, laid, judged, unread, strikes, first, due, after, plain}
+use Rattle.card.specs.Calls.{Call, Withdraw, read, Order, newPin, newMark, orders, pend, pendAll, laid, judged, unread, strikes, firstStruck, due, after, plain}
 use Rattle.card.specs.Personalise.{fresh, loadedBy, personalised}
 use Rattle.history.proofs.Own.{box, run}
 use Rattle.history.specs.Run.{Loading, personalisedWith}
@@ -154,7 +155,7 @@ unfolding personalised
 taken l f = go (leb (l .mark) 1) (eqb (readBlock (l .block) .code) 0) refl refl f
   where
     go : (b k : Bool) → leb (l .mark) 1 ≡ b → eqb (readBlock (l .block) .code) 0 ≡ k
-        → loadedBy (freshOf l) (first (strikes (not b) input ∷ strikes (not k) pinFormat ∷ [])) .code ≡ 0 → Taken l
+        → loadedBy (freshOf l) (firstStruck (strikes (not b) Input ∷ strikes (not k) PinFormat ∷ [])) .code ≡ 0 → Taken l
     go true true eb ek z = record { mark-so = eb; block-so = ek }
     go true false eb ek z = absurd (eqb-false 9 0 refl z)
     go false k eb ek z = absurd (eqb-false 1 0 refl z)

@@ -14,7 +14,8 @@ use Rattle.history.specs.Ledger.{afterCalls}
 use Rattle.history.specs.Demand3.{Fresh}
 use Rattle.history.specs.Demands.{answer, Demands, NoOther}
 use Rattle.history.proofs.Own.{any, box, run}
-use Rattle.history.proofs.Accepted.{not-zero, accepted-exactly}
+use Rattle.answers.proofs.Laws.{not-zero}
+use Rattle.history.proofs.Accepted.{accepted-exactly}
 use Rattle.history.proofs.Shadow.{our-record}
 use Rattle.history.proofs.Strike.{strike-law}
 

@@ -1,5 +1,10 @@
 -- The examples marked P, and the cases of the table, computed. Assumes nothing.
-use mathlib.Core.Path.{refl}
+use mathlib.Core.Path.{_≡_, refl}
+use mathlib.Core.Bool.{false}
+use mathlib.Core.List.{List}
+use Prim.Native.Nat.{ℕ}
+use lib.ListN.{length}
+use borrow.Author.Tests.{eq-eqb}
 use Rattle.octets.specs.Numbers.{leOctets, beOctets, be, le}
 use Rattle.octets.specs.Same.{same}
 use Rattle.octets.specs.Digits.{digits, pairs}
@@ -18,9 +23,9 @@ use Rattle.cryptogram.specs.Data.{width, widths, fields as dataFields, row, pla
 use Rattle.transaction.specs.Transaction.{pendingFits, restFits}
 use Rattle.card.specs.Record.{sound}
 use Rattle.card.specs.Keys.{sessionKeyOf, counterKeyOf}
-use Rattle.card.specs.Calls.{judgedScript, judged, arpcFor, cryptogramFor, countersFor, due, after}
+use Rattle.card.specs.Calls.{IssuerAnswer, plain, step, judgedScript, judged, arpcFor, cryptogramFor, countersFor, due, after}
 use Rattle.card.specs.Personalise.{personalised}
-use Rattle.history.specs.Examples.{Table}
+use Rattle.history.specs.Examples.{openAt, Table}
 use Rattle.history.specs.Cases.{Cases}
 
 pub p-table : Table
@@ -49,6 +54,11 @@ p-table =
       P14 = refl;
     }
 
+differs-11 : (arpc csu : List ℕ) → length arpc ≡ 8 → length csu ≡ 4 → same arpc (arpcFor (openAt 0) csu) ≡ false
+    → step (openAt 0) (IssuerAnswer arpc csu) ≡ plain (openAt 0) 11
+unfolding same digits pinFits pendingFits restFits sound judged due after
+differs-11 arpc csu a b c = rw (eq-eqb _ _ a, eq-eqb _ _ b, c)
+
 pub cases : Cases
 unfolding same leOctets beOctets be le lengthField fieldSays largest largestShort lengthOf placeOf tagFits codeHead body bodySize tagOf dataOf bodyOf codeIn shape headerOf tagFor lengthFor isFor listed firstOf commandOf digits halves wellFormed pinOf pinFits readBlock found noPin countersOf counterBlock kindNumber sessionSeed sessionKeyOf counterKeyOf pendingFits restFits sound judgedScript judged arpcFor cryptogramFor countersFor due after personalised
 cases =
@@ -65,8 +75,8 @@ cases =
       close-6 = refl;
       counters-6 = refl;
       answer-aac = refl;
-      nine = refl;
-      eleven = refl;
+      script-9 = λ h m. refl;
+      answer-11 = differs-11;
       withdrawn = refl;
       none-loaded = λ c. refl;
       three-digits = refl;

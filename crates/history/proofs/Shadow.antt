@@ -7,6 +7,8 @@ use mathlib.Core.List.{List, [], _∷_, _++_}
 use mathlib.Core.Bool.{Bool, true, false, not, _&&_, _||_, cond, and-false, or-true, or-false, false≢true}
 use lib.Dec.{eqb}
 use lib.ListN.{replicate}
+use Rattle.answers.specs.declared.Refusal.{Refusal}
+use Rattle.answers.specs.Refusals.{number}
 use Rattle.shapes.specs.declared.command.Listed.{Listed}
 use Rattle.shapes.specs.Length.{lengthOf}
 use Rattle.shapes.specs.Shape.{tagOf, dataOf}
@@ -23,14 +25,14 @@ use Rattle.card.specs.declared.Card.{Card}
 use Rattle.card.specs.declared.Reply.{Reply}
 use Rattle.card.specs.Record.{sound, Kept, kept, withTransaction, withKept, withCounters}
 use Rattle.card.specs.Keys.{smcKey}
-use Rattle.card.specs.Calls.{Call, Open, IssuerAnswer, Script, Close, Withdraw, Counters, Refusal, number, read, grown, cryptogramFor, only, due, Order, newPin, newMark, orders, pend, pendAll, laid}
+use Rattle.card.specs.Calls.{Call, Open, IssuerAnswer, Script, Close, Withdraw, Counters, read, grown, cryptogramFor, only, due, Order, newPin, newMark, orders, pend, pendAll, laid}
 use Rattle.history.proofs.Own.{any, box, entry, run}
 use Rattle.history.specs.Run.{Loading, Entry, did, History, frame, was, opened as isOpened, answered as isAnswered, failed as isFailed}
 use Rattle.history.specs.Demand2.{Accepts}
 use Rattle.history.specs.Ledger.{howMany, since, ordersIn, Page, turned, page, madeGood, good, obeyed, allObeyed, keptBy, atcBy, countersBy, transactionBy, mustBe, ledger, loaded, afterCalls}
 use Rattle.history.specs.Demand3.{Fresh}
 use Rattle.history.proofs.Change.{mild, Change, change, quiet, idle, early, counted, opened, answered, spoiled, differed, took, dropped, closed, withdrew}
-use Rattle.history.proofs.Accepted.{not-zero}
+use Rattle.answers.proofs.Laws.{not-zero}
 use Rattle.history.proofs.Keeps.{parts, pin-count, idle-none, Fit, Fits, orders-fit, keeps, freshOf, fresh-law, started}
 
 -- orders, kept and pending

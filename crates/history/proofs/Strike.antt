@@ -6,6 +6,8 @@ use mathlib.Core.Bool.{Bool, true, false, not, _&&_, cond, and-eq-true-iff, true
 use lib.ListN.{length, replicate}
 use lib.Dec.{eqb}
 use borrow.Author.Tests.{eqb-true, not-true}
+use Rattle.answers.specs.declared.Refusal.{Refusal}
+use Rattle.answers.specs.Refusals.{number}
 use Rattle.octets.specs.Same.{same}
 use Rattle.shapes.specs.declared.command.Listed.{Listed}
 use Rattle.shapes.specs.declared.command.Listed.the-variants.{One, Unlisted}
@@ -19,7 +21,7 @@ use Rattle.card.specs.declared.Card.{Card}
 use Rattle.card.specs.declared.Reply.{Reply}
 use Rattle.card.specs.Record.{sound, withTransaction}
 use Rattle.card.specs.Keys.{sessionKeyOf, smiKey, smcKey, counterKeyOf}
-use Rattle.card.specs.Calls.{Call, Open, IssuerAnswer, Script, Close, Withdraw, Counters, Refusal, number, Verdict, refuse, accept, read, judgedScript, judged, arpcFor, cryptogramFor, countersFor}
+use Rattle.card.specs.Calls.{Call, Open, IssuerAnswer, Script, Close, Withdraw, Counters, Verdict, refuse, accept, read, judgedScript, judged, arpcFor, cryptogramFor, countersFor}
 use Rattle.card.specs.Calls.{only, Order, newPin, newMark, orders, pend, pendAll, refused, reply, plain}
 use Rattle.history.proofs.Own.{any, box, entry, history, run}
 use Rattle.history.specs.Run.{Loading, Entry, did, History, callsOf, frame, taken}

@@ -3,19 +3,23 @@ use Prim.Native.Nat.{ℕ}
 use mathlib.Core.Path.{_≡_}
 use mathlib.Core.Bool.{true, false}
 use mathlib.Core.List.{List, [], _∷_}
-use lib.ListN.{replicate}
+use lib.ListN.{length, replicate}
+use Rattle.octets.specs.Same.{same}
+use Rattle.shapes.specs.declared.command.Command.the-variants.{SetPin}
+use Rattle.shapes.specs.declared.command.Listed.the-variants.{One}
 use Rattle.shapes.specs.Command.{commandOf}
 use Rattle.gost.specs.Gost.{subkeys, encipher}
 use Rattle.hash.specs.Hash.{hash256}
 use Rattle.derive.specs.Derivation.{derived, cardLabel}
 use Rattle.pin.specs.declared.PinRead.{PinRead}
+use Rattle.pin.specs.Answers.{noPin}
 use Rattle.cryptogram.specs.declared.Kind.the-variants.{Arqc, Aac}
 use Rattle.cryptogram.specs.Cryptogram.{cryptogramOf, arpcOf}
 use Rattle.transaction.specs.Transaction.{none, spoilt, begun}
 use Rattle.card.specs.declared.Card.{Card}
 use Rattle.card.specs.declared.Reply.{Reply}
 use Rattle.card.specs.Record.{cardOf, countersAt, withTransaction}
-use Rattle.card.specs.Calls.{Call, Open, IssuerAnswer, Script, Close, Withdraw, Counters, pinFormat, arpcDiffers, number, arpcFor, gives, newPin, newMark, orders, plain, step}
+use Rattle.card.specs.Calls.{Call, Open, IssuerAnswer, Script, Close, Withdraw, Counters, Message, judgedScript, arpcFor, only, gives, newPin, newMark, orders, dueBy, plain, step}
 use Rattle.card.specs.Personalise.{blank, personalised}
 use Rattle.history.specs.Examples.{cardAt, idle, openAt, spoiltAt, both, messageOf}
 
@@ -39,6 +43,10 @@ loadedWith mark block = personalised (replicate 32 1) (replicate 32 2) (replicat
 abbrev pub keyAt : ℕ → ℕ → ℕ → List ℕ
 keyAt n high low = derived (replicate 32 n) cardLabel (high ∷ low ∷ 0xf0 ∷ replicate 5 0)
 
+-- a PIN change whose code fits and whose block has no PIN's format
+abbrev pub pinUnread : Message
+pinUnread = record { shaped = true; command = One SetPin; coded = true; block = noPin 9 }
+
 -- an unsound record is 1 and stays
 abbrev pub Unsound : Card → Call → Type 0
 Unsound r c = step r c ≡ plain r 1
@@ -55,12 +63,12 @@ pub record Cases : Type 0 where
   pub script-4-5 : step (openAt 0) (Script (replicate 4 0) []) ≡ plain (spoiltAt 0 []) 4
   pub script-5-7 : step (openAt 65535) (Script (replicate 4 0) (messageOf (0x00 ∷ []) 0 1 2 3 4)) ≡ plain (spoiltAt 65535 []) 5
   pub script-7-8 : step (openAt 65535) (Script (0x84 ∷ 0x1e ∷ 0x00 ∷ 0x00 ∷ []) (messageOf (0x00 ∷ []) 0 1 2 3 4)) ≡ plain (spoiltAt 65535 []) 7
-  -- "6 .. other calls but Withdraw with none open; issuer answer after an AAC", "9", "11"
+  -- "6 .. other calls but Withdraw with none open; issuer answer after an AAC", "9 .. PIN block format wrong", "11 .. ARPC differs"
   pub close-6 : step idle Close ≡ plain idle 6
   pub counters-6 : step idle Counters ≡ plain idle 6
   pub answer-aac : let r = withTransaction idle (begun true (replicate 8 0)) in step r (IssuerAnswer (replicate 8 0) (replicate 4 0)) ≡ plain r 6
-  pub nine : number pinFormat ≡ 9
-  pub eleven : number arpcDiffers ≡ 11
+  pub script-9 : (h m : List ℕ) → dueBy (openAt 0) (Script h m) (judgedScript (openAt 0) (replicate 4 0) pinUnread) ≡ only 9
+  pub answer-11 : (arpc csu : List ℕ) → length arpc ≡ 8 → length csu ≡ 4 → same arpc (arpcFor (openAt 0) csu) ≡ false → step (openAt 0) (IssuerAnswer arpc csu) ≡ plain (openAt 0) 11
   -- "Withdraw: drops what is pending and ends the transaction."
   pub withdrawn : step (spoiltAt 0 both) Withdraw ≡ plain idle 0
   -- "Any unsound record gets 1 ahead of all other checks and comes back unchanged, Script included."

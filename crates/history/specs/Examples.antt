@@ -8,7 +8,8 @@ use lib.ListN.{set, replicate}
 use Rattle.shapes.specs.declared.Opened.the-variants.{Data, Refused}
 use Rattle.shapes.specs.Answers.{shaped}
 use Rattle.keys.specs.CardNumber.{Y}
-use Rattle.pin.specs.Answers.{written, noPin, writePin, readPin}
+use Rattle.answers.specs.Answers.{aBlock}
+use Rattle.pin.specs.Answers.{noPin, writePin, readPin}
 use Rattle.cryptogram.specs.declared.Kind.the-variants.{Arqc, Tc, Aac}
 use Rattle.cryptogram.specs.Data.{cardData}
 use Rattle.transaction.specs.Transaction.{none, spoilt, begun}
@@ -52,9 +53,9 @@ dataWith byte = set (set (replicate 65 0) 32 1) 36 byte
 pub record Table : Type 0 where
   pub P1 : Y (1 ∷ 2 ∷ 3 ∷ 4 ∷ 5 ∷ 6 ∷ 7 ∷ 8 ∷ 9 ∷ 0 ∷ 1 ∷ 2 ∷ 3 ∷ 4 ∷ 5 ∷ 6 ∷ 7 ∷ 1 ∷ []) 95 ≡ 0x38 ∷ 0x4e ∷ 0x5a ∷ 0x0c ∷ 0x22 ∷ 0x38 ∷ 0x47 ∷ 0x5f ∷ []
   pub P2 : Y (1 ∷ 2 ∷ 3 ∷ 4 ∷ 5 ∷ 6 ∷ 7 ∷ 8 ∷ 9 ∷ 0 ∷ 1 ∷ 2 ∷ []) 0 ≡ 0x00 ∷ 0x0c ∷ 0x22 ∷ 0x38 ∷ 0x4e ∷ 0x5a ∷ 0x0c ∷ 0x00 ∷ []
-  pub P3 : writePin (1 ∷ 2 ∷ 3 ∷ 4 ∷ 5 ∷ 6 ∷ 7 ∷ []) ≡ written (0x27 ∷ 0x12 ∷ 0x34 ∷ 0x56 ∷ 0x7f ∷ 0xff ∷ 0xff ∷ 0xff ∷ [])
-  pub P4 : writePin (1 ∷ 2 ∷ 3 ∷ 4 ∷ []) ≡ written (0x24 ∷ 0x12 ∷ 0x34 ∷ 0xff ∷ 0xff ∷ 0xff ∷ 0xff ∷ 0xff ∷ [])
-  pub P5 : writePin (1 ∷ 2 ∷ 3 ∷ 4 ∷ 5 ∷ 6 ∷ 7 ∷ 8 ∷ 9 ∷ 0 ∷ 1 ∷ 2 ∷ []) ≡ written (0x2c ∷ 0x12 ∷ 0x34 ∷ 0x56 ∷ 0x78 ∷ 0x90 ∷ 0x12 ∷ 0xff ∷ [])
+  pub P3 : writePin (1 ∷ 2 ∷ 3 ∷ 4 ∷ 5 ∷ 6 ∷ 7 ∷ []) ≡ aBlock (0x27 ∷ 0x12 ∷ 0x34 ∷ 0x56 ∷ 0x7f ∷ 0xff ∷ 0xff ∷ 0xff ∷ [])
+  pub P4 : writePin (1 ∷ 2 ∷ 3 ∷ 4 ∷ []) ≡ aBlock (0x24 ∷ 0x12 ∷ 0x34 ∷ 0xff ∷ 0xff ∷ 0xff ∷ 0xff ∷ 0xff ∷ [])
+  pub P5 : writePin (1 ∷ 2 ∷ 3 ∷ 4 ∷ 5 ∷ 6 ∷ 7 ∷ 8 ∷ 9 ∷ 0 ∷ 1 ∷ 2 ∷ []) ≡ aBlock (0x2c ∷ 0x12 ∷ 0x34 ∷ 0x56 ∷ 0x78 ∷ 0x90 ∷ 0x12 ∷ 0xff ∷ [])
   pub P6 : readPin (0x24 ∷ 0x12 ∷ 0x34 ∷ 0x5f ∷ 0xff ∷ 0xff ∷ 0xff ∷ 0xff ∷ []) ≡ noPin 9
   pub P7 : readPin (0x23 ∷ 0x12 ∷ 0x3f ∷ 0xff ∷ 0xff ∷ 0xff ∷ 0xff ∷ 0xff ∷ []) ≡ noPin 9
   pub P8 : (a b c d : ℕ) → shaped (messageOf (0x00 ∷ []) 0 a b c d) ≡ Data 0x81 2 0

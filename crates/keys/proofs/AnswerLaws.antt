@@ -8,7 +8,7 @@ use lib.ListN.{length, take, replicate}
 use Rattle.octets.specs.Lengths.{keyFits}
 use Rattle.octets.specs.Numbers.{beOctets, leOctets}
 use Rattle.gost.specs.Gost.{encipher}
-use Rattle.cipher.specs.declared.BlockAnswer.{BlockAnswer}
+use Rattle.answers.specs.declared.BlockAnswer.{BlockAnswer}
 use Rattle.cipher.specs.Answers.{enciphered}
 use Rattle.cipher.proofs.AnswerLaws.{fits as block-fits}
 use Rattle.hash.specs.Hash.{hash256}

@@ -12,12 +12,12 @@ use Rattle.shapes.specs.declared.Opened.{Opened}
 use Rattle.shapes.specs.declared.Opened.the-variants.{Data, Refused}
 use Rattle.shapes.specs.Length.{lengthOf, placeOf}
 use Rattle.shapes.specs.Shape.{bodySize, bodyOf, codeIn, shape}
-use Rattle.shapes.specs.Answers.{number, answer, Tells}
+use Rattle.shapes.specs.Answers.{openedNumber, answer, Tells}
 use Rattle.shapes.proofs.AnswerLaws.{number-answer, tells, Told}
 use Rattle.message.specs.Code.{codeFor, given, codeFits}
 use Rattle.message.specs.Answers.{openNumber, opened}
 
-pub number-opened : (key header m : List ℕ) → number (opened key header m) ≡ openNumber key header m
+pub number-opened : (key header m : List ℕ) → openedNumber (opened key header m) ≡ openNumber key header m
 unfolding opened
 number-opened key header m = number-answer (openNumber key header m) m
 

@@ -5,6 +5,8 @@ use mathlib.Core.Bool.{_&&_, cond}
 use mathlib.Core.List.{List, _++_}
 use lib.Dec.{leb, eqb}
 use lib.ListN.{length, take, drop}
+use Rattle.answers.specs.declared.Refusal.the-variants.{Input, NoRoom, ShapeWrong, CodeDiffers}
+use Rattle.answers.specs.Refusals.{number}
 use Rattle.shapes.specs.declared.Opened.{Opened}
 use Rattle.shapes.specs.Length.{largest}
 use Rattle.shapes.specs.Shape.{tagFits, sizeOf, shape}
@@ -13,7 +15,7 @@ use Rattle.message.specs.Code.{message, given, codeFits}
 
 -- opening: 1, 4, 8
 unfoldable pub openNumber : List ℕ → List ℕ → List ℕ → ℕ
-openNumber key header m = cond (given key header) (cond (shape m) (cond (codeFits key header m) 0 8) 4) 1
+openNumber key header m = cond (given key header) (cond (shape m) (cond (codeFits key header m) 0 (number CodeDiffers)) (number ShapeWrong)) (number Input)
 
 unfoldable pub opened : List ℕ → List ℕ → List ℕ → Opened
 opened key header m = answer (openNumber key header m) m
@@ -25,7 +27,7 @@ laid b place s = take place b ++ s ++ drop (place + length s) b
 -- wrapping: 1 (key, header, tag, L), 3 (the message does not fit from the place on)
 unfoldable pub wrapNumber : List ℕ → List ℕ → ℕ → ℕ → ℕ → ℕ → ℕ
 wrapNumber key header tag n size place =
-    cond (given key header && (tagFits tag && leb n largest)) (cond (leb (place + sizeOf n) size) 0 3) 1
+    cond (given key header && (tagFits tag && leb n largest)) (cond (leb (place + sizeOf n) size) 0 (number NoRoom)) (number Input)
 
 -- a number of 01 and the buffer after
 pub record Written : Type 0 where

@@ -1,4 +1,5 @@
 // Script messages (R 1323565.1.008): their code, opening and wrapping.
+use answers::Refusal;
 pub use shapes::Command;
 pub use shapes::Listed;
 pub use shapes::Opened;
@@ -89,13 +90,13 @@ pub fn open_message(key: &[u8], header: &[u8], message: &[u8]) -> Opened
     ensures { λ r. ⌜ Tells r (opened (now (key .entry)) (now (header .entry)) (now (message .entry))) (openNumber (now (key .entry)) (now (header .entry)) (now (message .entry))) (now (message .entry)) ⌝ }
 {
     if !given(key, header) {
-        return Opened::Refused(1);
+        return Opened::Refused(Refusal::INPUT);
     }
     let Opened::Data { tag, place, length } = shapes::shape(message) else {
-        return Opened::Refused(4);
+        return Opened::Refused(Refusal::SHAPE_WRONG);
     };
     if !code_fits(key, header, message) {
-        return Opened::Refused(8);
+        return Opened::Refused(Refusal::CODE_DIFFERS);
     }
     Opened::Data { tag, place, length }
 }
@@ -148,19 +149,19 @@ fn wrap_number(key: &[u8], header: &[u8], tag: u8, n: usize, size: usize, place:
     ensures { λ r. ⌜ r ≡ wrapNumber (now (key .entry)) (now (header .entry)) tag n size place ⌝ }
 {
     if !given(key, header) {
-        return 1;
+        return Refusal::INPUT;
     }
     if !shapes::is_tag(tag) {
-        return 1;
+        return Refusal::INPUT;
     }
     if n > shapes::LARGEST {
-        return 1;
+        return Refusal::INPUT;
     }
     if size < place {
-        return 3;
+        return Refusal::NO_ROOM;
     }
     if size - place < shapes::place_of(n) + n + 6 {
-        return 3;
+        return Refusal::NO_ROOM;
     }
     0
 }

@@ -11,18 +11,19 @@ use Rattle.octets.proofs.DigitLaws.{digits-length}
 use Rattle.octets.specs.Lengths.{keyFits}
 use Rattle.octets.proofs.DigitLaws.{length-pairs}
 use Rattle.gost.specs.Gost.{encipher, decipher}
-use Rattle.cipher.specs.declared.BlockAnswer.{BlockAnswer}
-use Rattle.cipher.specs.Answers.{blockFits, noBlock as none, blockAnswer, enciphered, deciphered}
+use Rattle.answers.specs.declared.BlockAnswer.{BlockAnswer}
+use Rattle.cipher.specs.Answers.{blockFits, blockAnswer, enciphered, deciphered}
 use Rattle.cipher.proofs.AnswerLaws.{fits as block-fits}
 use Rattle.pin.specs.PinBlock.{pinFits, halves, fields, pinBlock, wellFormed, pinOf}
-use Rattle.pin.specs.Answers.{written, noBlock, found, noPin, writePin, readBlock, readPin, encipherPin, decipherPin}
+use Rattle.answers.specs.Answers.{aBlock, noBlock}
+use Rattle.pin.specs.Answers.{found, noPin, writePin, readBlock, readPin, encipherPin, decipherPin}
 use Rattle.pin.proofs.BlockLaws.{Fits, fits, Formed, formed, length-fields}
 
 pub length-pinBlock : (pin : List ℕ) → Fits 0 (length pin) pin → length (pinBlock pin) ≡ 8
 unfolding pinBlock
 length-pinBlock pin f = length-pairs 16 (fields pin) 8 (length-fields pin (f .most))
 
--- t is the test of the PIN to be written
+-- t is the test of the PIN to be aBlock
 module _ (pin : List ℕ) (t : Bool) (e : t ≡ pinFits 0 (length pin) pin) where
   pub digits-fit : not t ≡ false → Fits 0 (length pin) pin
   digits-fit n = fits 0 (length pin) pin (sym e ∙ not-false t n)
@@ -31,7 +32,7 @@ module _ (pin : List ℕ) (t : Bool) (e : t ≡ pinFits 0 (length pin) pin) wher
   unfolding writePin
   write-no-digits n = simp (sym e ∙ not-true t n)
 
-  pub write-yes : not t ≡ false → written (pinBlock pin) ≡ writePin pin
+  pub write-yes : not t ≡ false → aBlock (pinBlock pin) ≡ writePin pin
   unfolding writePin
   write-yes n = simp (sym e ∙ not-false t n)
 
@@ -40,10 +41,10 @@ module _ (pin : List ℕ) (t : Bool) (e : t ≡ pinFits 0 (length pin) pin) wher
   encipher-no-digits key h n = simp (eq-eqb _ _ h, sym e ∙ not-true t n)
 
   pub encipher-yes : (key : List ℕ) → length key ≡ 32 → not t ≡ false → (r : BlockAnswer) → r ≡ enciphered key (pinBlock pin)
-      → written (r .bytes) ≡ encipherPin key pin
+      → aBlock (r .bytes) ≡ encipherPin key pin
   unfolding encipherPin keyFits enciphered
   encipher-yes key h n r w =
-      ap (λ (a : BlockAnswer). written (a .bytes))
+      ap (λ (a : BlockAnswer). aBlock (a .bytes))
       (w ∙ sym (block-fits key (pinBlock pin) (encipher key (pinBlock pin)) h (length-pinBlock pin (digits-fit n))))
       ∙ sym (simp (eq-eqb _ _ h, sym e ∙ not-false t n))
 
@@ -82,17 +83,13 @@ module _ (b : List ℕ) where
   unfolding readPin blockFits
   read-block h = simp (eq-eqb _ _ h)
 
-none-code : none .code ≡ 1
-unfolding none
-none-code = refl
-
 -- r is the cipher's answer, with its refusal
 module _ (key b : List ℕ) (r : BlockAnswer) (e : r ≡ deciphered key b) where
   pub decipher-no : (r .code ≡ 0 → ⊥) → noPin 1 ≡ decipherPin key b
   unfolding decipherPin deciphered blockAnswer
   decipher-no h = go (keyFits key && blockFits b) e
     where
-      go : (t : Bool) → r ≡ cond t (record { code = 0; bytes = decipher key b }) none → noPin 1 ≡ cond t (readBlock (decipher key b)) (noPin 1)
+      go : (t : Bool) → r ≡ cond t (aBlock (decipher key b)) (noBlock 1) → noPin 1 ≡ cond t (readBlock (decipher key b)) (noPin 1)
       go true w = absurd (h (ap (λ (a : BlockAnswer). a .code) w))
       go false w = refl
 
@@ -100,6 +97,6 @@ module _ (key b : List ℕ) (r : BlockAnswer) (e : r ≡ deciphered key b) where
   unfolding decipherPin deciphered blockAnswer
   decipher-yes h = go (keyFits key && blockFits b) e
     where
-      go : (t : Bool) → r ≡ cond t (record { code = 0; bytes = decipher key b }) none → readBlock (r .bytes) ≡ cond t (readBlock (decipher key b)) (noPin 1)
+      go : (t : Bool) → r ≡ cond t (aBlock (decipher key b)) (noBlock 1) → readBlock (r .bytes) ≡ cond t (readBlock (decipher key b)) (noPin 1)
       go true w = ap (λ (a : BlockAnswer). readBlock (a .bytes)) w
-      go false w = let z : _≡_ {A = ℕ} 0 1 = sym h ∙ ap (λ (a : BlockAnswer). a .code) w ∙ none-code in absurd (omega arith)
+      go false w = let z : _≡_ {A = ℕ} 0 1 = sym h ∙ ap (λ (a : BlockAnswer). a .code) w in absurd (omega arith)

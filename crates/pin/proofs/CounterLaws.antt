@@ -1,4 +1,4 @@
--- A counter block is read back as its counters, and a block that was read is written back. Assumes nothing.
+-- A counter block is read back as its counters, and a block that was read is aBlock back. Assumes nothing.
 use mathlib.Core.Path.{_≡_, sym, ap, _∙_, subst}
 use mathlib.Core.List.{List, [], _∷_, _++_}
 use Prim.Native.Nat.{ℕ, _+_, _≤_, _<_, _^_}

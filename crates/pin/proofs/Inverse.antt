@@ -1,4 +1,4 @@
--- A PIN that was written is read back, and a block that was read is written back, clear and enciphered. Assumes nothing.
+-- A PIN that was written is read back, and a block that was read is aBlock back, clear and enciphered. Assumes nothing.
 use mathlib.Core.Path.{_≡_, refl, sym, ap, ap₂, _∙_, subst}
 use mathlib.Core.Bool.{Bool, true, false, _&&_, cond, and-eq-true-iff}
 use mathlib.Core.List.{List, _∷_, _++_, append-nil}
@@ -16,10 +16,11 @@ use Rattle.octets.specs.Lengths.{keyFits}
 use Rattle.gost.specs.Gost.{encipher, decipher}
 use Rattle.gost.proofs.Inverse.{length-encipher, length-decipher, decipher-encipher, encipher-decipher}
 use Rattle.cipher.specs.Answers.{blockFits}
-use Rattle.pin.specs.declared.PinBlock.{PinBlock}
+use Rattle.answers.specs.declared.BlockAnswer.{BlockAnswer}
 use Rattle.pin.specs.declared.PinRead.{PinRead}
 use Rattle.pin.specs.PinBlock.{pinFits, halves, fields, pinBlock, wellFormed, pinOf}
-use Rattle.pin.specs.Answers.{written, noBlock, found, noPin, digitsOf, writePin, readBlock, readPin, encipherPin, decipherPin}
+use Rattle.answers.specs.Answers.{aBlock, noBlock}
+use Rattle.pin.specs.Answers.{found, noPin, digitsOf, writePin, readBlock, readPin, encipherPin, decipherPin}
 use Rattle.pin.proofs.BlockLaws.{Fits, fits, formed, small-fields, length-fields, halves-pairs, octets-pairs, pairs-halves}
 use Rattle.pin.proofs.AnswerLaws.{length-pinBlock, length-pinOf, read-block}
 
@@ -30,8 +31,7 @@ unfolding noPin
 accepted-read true x n e = (refl, e)
 accepted-read false x n e = absurd (omega arith)
 
-accepted-block : (t : Bool) (x : PinBlock) (n : ℕ) → cond {A = PinBlock} t x (noBlock (suc n)) .code ≡ 0 → (t ≡ true) × (x .code ≡ 0)
-unfolding noBlock
+accepted-block : (t : Bool) (x : BlockAnswer) (n : ℕ) → cond {A = BlockAnswer} t x (noBlock (suc n)) .code ≡ 0 → (t ≡ true) × (x .code ≡ 0)
 accepted-block true x n e = (refl, e)
 accepted-block false x n e = absurd (omega arith)
 
@@ -41,7 +41,7 @@ by-fits f n s h = simp (le-leb _ _ (h .least), le-leb _ _ (h .most), h .all)
 
 write-accepted : (pin : List ℕ) → writePin pin .code ≡ 0 → pinFits 0 (length pin) pin ≡ true
 unfolding writePin
-write-accepted pin h = accepted-block (pinFits 0 (length pin) pin) (written (pinBlock pin)) 11 h .0
+write-accepted pin h = accepted-block (pinFits 0 (length pin) pin) (aBlock (pinBlock pin)) 11 h .0
 
 pub format-accepted : (b : List ℕ) → readBlock b .code ≡ 0 → wellFormed (halves b) ≡ true
 unfolding readBlock
@@ -118,12 +118,11 @@ module _ (b : List ℕ) (e : length b ≡ 8) (g : wellFormed (halves b) ≡ true
       ∙ ap (pairs 16) (ap (λ (s : List ℕ). getD s 0 0 ∷ getD s 1 0 ∷ drop 2 s) (elements-all h 16 l) ∙ sym (elements-all h 16 l))
       ∙ pairs-halves b
 
-write-fits : (pin : List ℕ) → pinFits 0 (length pin) pin ≡ true → writePin pin ≡ written (pinBlock pin)
+write-fits : (pin : List ℕ) → pinFits 0 (length pin) pin ≡ true → writePin pin ≡ aBlock (pinBlock pin)
 unfolding writePin
-write-fits pin g = ap (λ (t : Bool). cond t (written (pinBlock pin)) (noBlock 12)) g
+write-fits pin g = ap (λ (t : Bool). cond t (aBlock (pinBlock pin)) (noBlock 12)) g
 
-bytes-of : (x : List ℕ) → written x .bytes ≡ x
-unfolding written
+bytes-of : (x : List ℕ) → aBlock x .bytes ≡ x
 bytes-of x = refl
 
 -- what was written is read back: the digits and their count
@@ -131,7 +130,7 @@ pub read-written : (pin : List ℕ) → writePin pin .code ≡ 0 → readPin (wr
 read-written pin h =
     let g = write-accepted pin h in
     let f = fits 0 (length pin) pin g in
-    ap (λ (r : PinBlock). readPin (r .bytes)) (write-fits pin g)
+    ap (λ (r : BlockAnswer). readPin (r .bytes)) (write-fits pin g)
     ∙ ap readPin (bytes-of (pinBlock pin))
     ∙ sym (read-block (pinBlock pin) (length-pinBlock pin f))
     ∙ block-read pin f
@@ -140,14 +139,14 @@ read-accepted : (b : List ℕ) → readPin b .code ≡ 0 → (length b ≡ 8) ×
 unfolding readPin blockFits
 read-accepted b h = let a = accepted-read (eqb (length b) 8) (readBlock b) 0 h in (eqb-true _ _ (a .0), format-accepted b (a .1))
 
--- what was read is written back: the block
-pub written-read : (b : List ℕ) → readPin b .code ≡ 0 → writePin (digitsOf (readPin b)) ≡ written b
+-- what was read is aBlock back: the block
+pub written-read : (b : List ℕ) → readPin b .code ≡ 0 → writePin (digitsOf (readPin b)) ≡ aBlock b
 written-read b h =
     let a = read-accepted b h in
     ap (λ (r : PinRead). writePin (digitsOf r)) (sym (read-block b (a .0)) ∙ found-block b (a .0) (a .1))
     ∙ ap writePin (digits-found (pinOf (halves b)))
     ∙ write-fits (pinOf (halves b)) (pin-fits b (a .0) (a .1))
-    ∙ ap written (block-written b (a .0) (a .1))
+    ∙ ap aBlock (block-written b (a .0) (a .1))
 
 -- a PIN that was read has twelve places: its digits, 4 to 12 of them, and zeros
 pub record Kept (r : PinRead) : Type 0 where
@@ -179,11 +178,11 @@ encipher-accepted : (key pin : List ℕ) → encipherPin key pin .code ≡ 0 →
 unfolding encipherPin
 encipher-accepted key pin h =
     let t = pinFits 0 (length pin) pin in
-    let x = written (encipher key (pinBlock pin)) in
+    let x = aBlock (encipher key (pinBlock pin)) in
     let a = accepted-block (keyFits key) (cond t x (noBlock 12)) 0 h in
     (a .0, accepted-block t x 11 (a .1) .0)
 
-encipher-fits : (key pin : List ℕ) → keyFits key ≡ true → pinFits 0 (length pin) pin ≡ true → encipherPin key pin ≡ written (encipher key (pinBlock pin))
+encipher-fits : (key pin : List ℕ) → keyFits key ≡ true → pinFits 0 (length pin) pin ≡ true → encipherPin key pin ≡ aBlock (encipher key (pinBlock pin))
 unfolding encipherPin
 encipher-fits key pin k g = simp (k, g)
 
@@ -195,7 +194,7 @@ pub deciphered-enciphered : (key pin : List ℕ) → encipherPin key pin .code �
 deciphered-enciphered key pin h =
     let a = encipher-accepted key pin h in
     let f = fits 0 (length pin) pin (a .1) in
-    ap (λ (r : PinBlock). decipherPin key (r .bytes)) (encipher-fits key pin (a .0) (a .1))
+    ap (λ (r : BlockAnswer). decipherPin key (r .bytes)) (encipher-fits key pin (a .0) (a .1))
     ∙ ap (decipherPin key) (bytes-of (encipher key (pinBlock pin)))
     ∙ decipher-fits key (encipher key (pinBlock pin)) (a .0) (length-encipher key (pinBlock pin))
     ∙ ap readBlock (decipher-encipher (pinBlock pin) (length-pinBlock pin f) (octets-pinBlock pin f) key)
@@ -208,7 +207,7 @@ decipher-accepted key b h =
     let t = and-eq-true-iff (keyFits key) (eqb (length b) 8) .0 (a .0) in
     (t .0, (eqb-true _ _ (t .1), format-accepted (decipher key b) (a .1)))
 
-pub enciphered-deciphered : (key b : List ℕ) → Octets b → decipherPin key b .code ≡ 0 → encipherPin key (digitsOf (decipherPin key b)) ≡ written b
+pub enciphered-deciphered : (key b : List ℕ) → Octets b → decipherPin key b .code ≡ 0 → encipherPin key (digitsOf (decipherPin key b)) ≡ aBlock b
 enciphered-deciphered key b o h =
     let a = decipher-accepted key b h in
     let k = a .0 in
@@ -219,5 +218,5 @@ enciphered-deciphered key b o h =
     ap (λ (r : PinRead). encipherPin key (digitsOf r)) (decipher-fits key b k e ∙ found-block d l g)
     ∙ ap (encipherPin key) (digits-found (pinOf (halves d)))
     ∙ encipher-fits key (pinOf (halves d)) k (pin-fits d l g)
-    ∙ ap (λ (s : List ℕ). written (encipher key s)) (block-written d l g)
-    ∙ ap written (encipher-decipher b e o key)
+    ∙ ap (λ (s : List ℕ). aBlock (encipher key s)) (block-written d l g)
+    ∙ ap aBlock (encipher-decipher b e o key)

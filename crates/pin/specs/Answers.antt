@@ -6,16 +6,12 @@ use lib.ListN.{length, take, replicate}
 use Rattle.gost.specs.Gost.{encipher, decipher}
 use Rattle.octets.specs.Lengths.{keyFits}
 use Rattle.cipher.specs.Answers.{blockFits}
-use Rattle.pin.specs.declared.PinBlock.{PinBlock}
+use Rattle.answers.specs.declared.Refusal.the-variants.{Input, PinFormat, PinDigits}
+use Rattle.answers.specs.declared.BlockAnswer.{BlockAnswer}
+use Rattle.answers.specs.Refusals.{number}
+use Rattle.answers.specs.Answers.{aBlock, noBlock}
 use Rattle.pin.specs.declared.PinRead.{PinRead}
 use Rattle.pin.specs.PinBlock.{pinFits, halves, pinBlock, wellFormed, pinOf}
-
--- a block, or a refusal's number and zeros
-unfoldable pub written : List ℕ → PinBlock
-written b = record { code = 0; bytes = b }
-
-unfoldable pub noBlock : ℕ → PinBlock
-noBlock n = record { code = n; bytes = replicate 8 0 }
 
 -- a PIN in twelve places, zeros in the unused ones, and its count; or a refusal's number and zeros
 unfoldable pub found : List ℕ → PinRead
@@ -29,20 +25,20 @@ unfoldable pub digitsOf : PinRead → List ℕ
 digitsOf r = take (r .count) (r .pin)
 
 -- 01, refusal 12: not 4 to 12 digits
-unfoldable pub writePin : List ℕ → PinBlock
-writePin pin = cond (pinFits 0 (length pin) pin) (written (pinBlock pin)) (noBlock 12)
+unfoldable pub writePin : List ℕ → BlockAnswer
+writePin pin = cond (pinFits 0 (length pin) pin) (aBlock (pinBlock pin)) (noBlock (number PinDigits))
 
 -- 01, refusal 9: the format is wrong; 1: a block is 8 bytes
 unfoldable pub readBlock : List ℕ → PinRead
-readBlock b = cond (wellFormed (halves b)) (found (pinOf (halves b))) (noPin 9)
+readBlock b = cond (wellFormed (halves b)) (found (pinOf (halves b))) (noPin (number PinFormat))
 
 unfoldable pub readPin : List ℕ → PinRead
-readPin b = cond (blockFits b) (readBlock b) (noPin 1)
+readPin b = cond (blockFits b) (readBlock b) (noPin (number Input))
 
 -- 002, 4.2.1 and 4.2.2: under the key SK_SMC
-unfoldable pub encipherPin : List ℕ → List ℕ → PinBlock
+unfoldable pub encipherPin : List ℕ → List ℕ → BlockAnswer
 encipherPin key pin =
-    cond (keyFits key) (cond (pinFits 0 (length pin) pin) (written (encipher key (pinBlock pin))) (noBlock 12)) (noBlock 1)
+    cond (keyFits key) (cond (pinFits 0 (length pin) pin) (aBlock (encipher key (pinBlock pin))) (noBlock (number PinDigits))) (noBlock (number Input))
 
 unfoldable pub decipherPin : List ℕ → List ℕ → PinRead
-decipherPin key b = cond (keyFits key && blockFits b) (readBlock (decipher key b)) (noPin 1)
+decipherPin key b = cond (keyFits key && blockFits b) (readBlock (decipher key b)) (noPin (number Input))

@@ -7,13 +7,10 @@ ghost use lib.ListN.{length, take, drop, replicate};
 ghost use Rattle.octets.specs.Digits.{pairs};
 ghost use Rattle.pin.specs.PinBlock.{pinFits, halves, fields, pinBlock, wellFormed};
 ghost use Rattle.pin.specs.CounterBlock.{counterBlock, countersOf};
-ghost use Rattle.pin.specs.Answers.{noBlock, noPin, writePin, readBlock, readPin, encipherPin, decipherPin};
-
-// A PIN block, clear or enciphered, or a refusal's number and zeros.
-pub struct PinBlock {
-    pub code: u8,
-    pub bytes: [u8; 8],
-}
+ghost use Rattle.pin.specs.Answers.{noPin, writePin, readBlock, readPin, encipherPin, decipherPin};
+use answers::BlockAnswer;
+use answers::Refusal;
+use answers::no_block;
 
 // A PIN in twelve places, zeros in the unused ones, and its count; or a refusal's number and zeros.
 pub struct PinRead {
@@ -32,16 +29,6 @@ pub struct Counters {
     pub decipherments: u16,
     // Terminal Mutual Authentication Counter
     pub authentications: u16,
-}
-
-// A refused block: the number and zeros.
-fn no_block(code: u8) -> PinBlock
-    ensures { λ r. ⌜ r ≡ noBlock code ⌝ }
-{
-    PinBlock {
-        code,
-        bytes: [0; 8],
-    }
 }
 
 // A refused reading: the number and zeros.
@@ -133,14 +120,14 @@ fn block_of(pin: &[u8]) -> [u8; 8]
 }
 
 // A PIN's block; 12 where it is not 4 to 12 digits.
-pub fn write_pin(digits: &[u8]) -> PinBlock
+pub fn write_pin(digits: &[u8]) -> BlockAnswer
     ensures { λ r. ⌜ r ≡ writePin (now (digits .entry)) ⌝ }
 {
     if !pin_fits(digits, digits.len(), 0) {
-        return no_block(12);
+        return no_block(Refusal::PIN_DIGITS);
     }
     let bytes = block_of(digits);
-    PinBlock { code: 0, bytes }
+    BlockAnswer { code: 0, bytes }
 }
 
 // Whether half-bytes are those of a PIN block.
@@ -184,7 +171,7 @@ pub fn read_block(block: [u8; 8]) -> PinRead
 {
     let h = split(block);
     if !well_formed(h) {
-        return no_pin(9);
+        return no_pin(Refusal::PIN_FORMAT);
     }
     let count = h[1];
     let pin = twelve(h, count);
@@ -200,25 +187,25 @@ pub fn read_pin(block: &[u8]) -> PinRead
     ensures { λ r. ⌜ r ≡ readPin (now (block .entry)) ⌝ }
 {
     if block.len() != 8 {
-        return no_pin(1);
+        return no_pin(Refusal::INPUT);
     }
     read_block(eight(block))
 }
 
 // A PIN's block enciphered under a key of 32 bytes, else 1; 12 where the PIN is not 4 to 12 digits.
-pub fn encipher_pin(key: &[u8], digits: &[u8]) -> PinBlock
+pub fn encipher_pin(key: &[u8], digits: &[u8]) -> BlockAnswer
     ensures { λ r. ⌜ r ≡ encipherPin (now (key .entry)) (now (digits .entry)) ⌝ }
 {
     if key.len() != 32 {
-        return no_block(1);
+        return no_block(Refusal::INPUT);
     }
     if !pin_fits(digits, digits.len(), 0) {
-        return no_block(12);
+        return no_block(Refusal::PIN_DIGITS);
     }
     let b = block_of(digits);
     let r = cipher::encipher(key, &b);
     let bytes = r.bytes;
-    PinBlock { code: 0, bytes }
+    BlockAnswer { code: 0, bytes }
 }
 
 // The PIN of an enciphered block of 8 bytes under a key of 32; other lengths: 1, a wrong format: 9.
@@ -227,7 +214,7 @@ pub fn decipher_pin(key: &[u8], block: &[u8]) -> PinRead
 {
     let r = cipher::decipher(key, block);
     if r.code != 0 {
-        return no_pin(1);
+        return no_pin(Refusal::INPUT);
     }
     let b = r.bytes;
     read_block(b)

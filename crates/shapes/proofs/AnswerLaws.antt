@@ -13,39 +13,39 @@ use Rattle.shapes.specs.declared.Opened.{Opened}
 use Rattle.shapes.specs.declared.Opened.the-variants.{Data, Refused}
 use Rattle.shapes.specs.Length.{largest, lengthOf, placeOf}
 use Rattle.shapes.specs.Shape.{tagFits, codeHead, tagOf, shape}
-use Rattle.shapes.specs.Answers.{number, values, answer, shaped, Tells}
+use Rattle.shapes.specs.Answers.{openedNumber, openedValues, answer, shaped, Tells}
 use Rattle.shapes.proofs.LengthLaws.{largest-small, place-small}
 use Rattle.shapes.proofs.ShapeLaws.{Good, good-shape, shape-good}
 
 -- an answer has its number, and on 0 its values
-pub number-answer : (r : ℕ) (m : List ℕ) → number (answer r m) ≡ r
-unfolding number answer
+pub number-answer : (r : ℕ) (m : List ℕ) → openedNumber (answer r m) ≡ r
+unfolding openedNumber answer
 number-answer r m = go (eqb r 0) refl
   where
-    go : (b : Bool) → eqb r 0 ≡ b → number (cond b (Data (tagOf m) (placeOf (lengthOf m)) (lengthOf m)) (Refused r)) ≡ r
+    go : (b : Bool) → eqb r 0 ≡ b → openedNumber (cond b (Data (tagOf m) (placeOf (lengthOf m)) (lengthOf m)) (Refused r)) ≡ r
     go true e = sym (eqb-true r 0 e)
     go false e = refl
 
-pub values-answer : (m : List ℕ) → values (answer 0 m) ≡ tagOf m ∷ placeOf (lengthOf m) ∷ lengthOf m ∷ []
-unfolding values answer
+pub values-answer : (m : List ℕ) → openedValues (answer 0 m) ≡ tagOf m ∷ placeOf (lengthOf m) ∷ lengthOf m ∷ []
+unfolding openedValues answer
 values-answer m = refl
 
-values-so : (r : ℕ) (m : List ℕ) → values (answer r m) ≡ cond (eqb r 0) (tagOf m ∷ placeOf (lengthOf m) ∷ lengthOf m ∷ []) []
-unfolding values answer
+values-so : (r : ℕ) (m : List ℕ) → openedValues (answer r m) ≡ cond (eqb r 0) (tagOf m ∷ placeOf (lengthOf m) ∷ lengthOf m ∷ []) []
+unfolding openedValues answer
 values-so r m = go (eqb r 0)
   where
-    go : (b : Bool) → values (cond b (Data (tagOf m) (placeOf (lengthOf m)) (lengthOf m)) (Refused r)) ≡ cond b (tagOf m ∷ placeOf (lengthOf m) ∷ lengthOf m ∷ []) []
+    go : (b : Bool) → openedValues (cond b (Data (tagOf m) (placeOf (lengthOf m)) (lengthOf m)) (Refused r)) ≡ cond b (tagOf m ∷ placeOf (lengthOf m) ∷ lengthOf m ∷ []) []
     go true = refl
     go false = refl
 
 pub tells : (o : Opened) (n : ℕ) (m : List ℕ) → o ≡ answer n m → {r : Opened} → r ≡ o → Tells r o n m
-tells o n m a e = record { is = e; its-number = ap number (e ∙ a) ∙ number-answer n m; its-values = ap values (e ∙ a) ∙ values-so n m }
+tells o n m a e = record { is = e; its-number = ap openedNumber (e ∙ a) ∙ number-answer n m; its-values = ap openedValues (e ∙ a) ∙ values-so n m }
 
 pub tells-shaped : (m : List ℕ) {r : Opened} → r ≡ shaped m → Tells r (shaped m) (cond (shape m) 0 4) m
 unfolding shaped
 tells-shaped m e = tells (shaped m) (cond (shape m) 0 4) m refl e
 
-pub number-shaped : (m : List ℕ) → number (shaped m) ≡ cond (shape m) 0 4
+pub number-shaped : (m : List ℕ) → openedNumber (shaped m) ≡ cond (shape m) 0 4
 unfolding shaped
 number-shaped m = number-answer (cond (shape m) 0 4) m
 

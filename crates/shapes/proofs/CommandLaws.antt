@@ -6,6 +6,9 @@ use Prim.Native.Nat.{ℕ}
 use native.Mathlib.Omega.{arith}
 use borrow.Author.Tests.{eq-eqb, ne-eqb, not-true, not-false, eqb-true}
 use lib.Dec.{eqb}
+use Rattle.answers.specs.declared.Refusal.{Refusal}
+use Rattle.answers.specs.declared.Refusal.the-variants.{NotListed}
+use Rattle.answers.specs.Refusals.{number}
 use Rattle.octets.specs.Same.{same}
 use Rattle.octets.proofs.SameLaws.{same-true}
 use Rattle.shapes.specs.declared.command.Command.{Command}
@@ -46,7 +49,7 @@ module _ (header : List ℕ) (tag n : ℕ) (a : Bool) (e : a ≡ isFor SetPin he
       unfolding commandOf firstOf listed
       clears-mark z = simp (sym e ∙ x, sym f ∙ y, sym g ∙ z)
 
-      pub none-listed : c ≡ false → Unlisted ≡ commandOf header tag n
+      pub none-listed : c ≡ false → Unlisted NotListed ≡ commandOf header tag n
       unfolding commandOf firstOf listed
       none-listed z = simp (sym e ∙ x, sym f ∙ y, sym g ∙ z)
 
@@ -70,7 +73,7 @@ listed-its header tag n k e = go (isFor SetPin header tag n) refl (isFor SetMark
     found j f w = let z : j ≡ k = cc in is-its k header tag n (ap (λ (i : Command). isFor i header tag n) (sym z) ∙ f)
 
     go : (a : Bool) → isFor SetPin header tag n ≡ a → (b : Bool) → isFor SetMark header tag n ≡ b → (c : Bool) → isFor ClearMark header tag n ≡ c
-        → cond a (One SetPin) (cond b (One SetMark) (cond c (One ClearMark) Unlisted)) ≡ One k → Its k header tag n
+        → cond a (One SetPin) (cond b (One SetMark) (cond c (One ClearMark) (Unlisted NotListed))) ≡ One k → Its k header tag n
     go true f b g c h w = found SetPin f w
     go false f true g c h w = found SetMark g w
     go false f false g true h w = found ClearMark h w
@@ -82,6 +85,20 @@ unfolding commandOf firstOf listed isFor headerOf tagFor lengthFor same
 its-listed SetPin = refl
 its-listed SetMark = refl
 its-listed ClearMark = refl
+
+-- why header, tag and length are no command's
+why-first : (cs : List Command) (header : List ℕ) (tag n : ℕ) (q : Refusal) → firstOf cs header tag n ≡ Unlisted q → q ≡ NotListed
+unfolding firstOf
+why-first [] header tag n q e = cc
+why-first (c ∷ cs) header tag n q e = go (isFor c header tag n) (why-first cs header tag n q) e
+  where
+    go : (b : Bool) → (firstOf cs header tag n ≡ Unlisted q → q ≡ NotListed) → cond b (One c) (firstOf cs header tag n) ≡ Unlisted q → q ≡ NotListed
+    go true f w = let z : _≡_ {A = ℕ} 0 1 = cc in absurd (omega arith)
+    go false f w = f w
+
+pub why-unlisted : (header : List ℕ) (tag n : ℕ) (q : Refusal) → commandOf header tag n ≡ Unlisted q → q ≡ NotListed
+unfolding commandOf
+why-unlisted header tag n q e = why-first listed header tag n q e
 
 number-first : (cs : List Command) (header : List ℕ) (tag n : ℕ) → refusal (firstOf cs header tag n) ≡ numberFor cs header tag n
 unfolding refusal firstOf
@@ -108,4 +125,4 @@ refused-unlisted header tag n h = go (commandOf header tag n) refl
   where
     go : (l : Listed) → commandOf header tag n ≡ l → refusal l ≡ 5
     go (One k) e = absurd (h k (listed-its header tag n k e))
-    go Unlisted e = refl
+    go (Unlisted q) e = ap number (why-unlisted header tag n q e)

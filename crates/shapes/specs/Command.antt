@@ -4,6 +4,8 @@ use mathlib.Core.Path.{_≡_}
 use mathlib.Core.Bool.{Bool, _&&_, cond}
 use mathlib.Core.List.{List, [], _∷_}
 use lib.Dec.{eqb}
+use Rattle.answers.specs.declared.Refusal.the-variants.{NotListed}
+use Rattle.answers.specs.Refusals.{number}
 use Rattle.octets.specs.Same.{same}
 use Rattle.shapes.specs.declared.command.Command.{Command}
 use Rattle.shapes.specs.declared.command.Command.the-variants.{SetPin, SetMark, ClearMark}
@@ -38,7 +40,7 @@ listed = SetPin ∷ SetMark ∷ ClearMark ∷ []
 
 -- the first of some commands that header, tag and L are for
 unfoldable pub firstOf : List Command → List ℕ → ℕ → ℕ → Listed
-firstOf [] header tag n = Unlisted
+firstOf [] header tag n = Unlisted NotListed
 firstOf (c ∷ cs) header tag n = cond (isFor c header tag n) (One c) (firstOf cs header tag n)
 
 -- the command that header, tag and L are for
@@ -48,10 +50,10 @@ commandOf header tag n = firstOf listed header tag n
 -- 01's number of an answer, whose value is the command: "class, instruction, parameters, tag or L not one listed" is 5
 unfoldable pub refusal : Listed → ℕ
 refusal (One c) = 0
-refusal Unlisted = 5
+refusal (Unlisted q) = number q
 
 abbrev pub numberFor : List Command → List ℕ → ℕ → ℕ → ℕ
-numberFor [] header tag n = 5
+numberFor [] header tag n = number NotListed
 numberFor (c ∷ cs) header tag n = cond (isFor c header tag n) 0 (numberFor cs header tag n)
 
 pub record Lists (r : Listed) (header : List ℕ) (tag n : ℕ) : Type 0 where

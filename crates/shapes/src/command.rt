@@ -1,6 +1,7 @@
 // The script commands that 01 lists.
 ghost use mathlib.Core.Path.{_≡_};
 ghost use Rattle.shapes.specs.Command.{headerOf, tagFor, lengthFor, isFor, Lists};
+use answers::Refusal;
 
 // What a script command does: sets the PIN, sets the block mark, clears it.
 pub enum Command {
@@ -9,10 +10,10 @@ pub enum Command {
     ClearMark,
 }
 
-// A listed command, or none.
+// A listed command, or why it is none.
 pub enum Listed {
     One(Command),
-    Unlisted,
+    Unlisted(Refusal),
 }
 
 impl Command {
@@ -94,6 +95,6 @@ impl Command {
         if Command::ClearMark.is_for(header, tag, length) {
             return Listed::One(Command::ClearMark);
         }
-        Listed::Unlisted
+        Listed::Unlisted(Refusal::NotListed)
     }
 }

@@ -1,12 +1,12 @@
 // The shape of script messages (R 1323565.1.008), and the script commands.
 ghost use mathlib.Core.Path.{_≡_};
-ghost use mathlib.Core.Bool.{cond};
 ghost use mathlib.Core.List.{[], _∷_};
 ghost use lib.ListN.{getD};
 ghost use Rattle.octets.specs.Same.{same};
 ghost use Rattle.shapes.specs.Length.{lengthOf, placeOf};
-ghost use Rattle.shapes.specs.Shape.{tagFits, codeHead, shape as hasShape};
-ghost use Rattle.shapes.specs.Answers.{shaped, Tells};
+ghost use Rattle.shapes.specs.Shape.{tagFits, codeHead};
+ghost use Rattle.shapes.specs.Answers.{shapeNumber, shaped, Tells};
+use answers::Refusal;
 
 mod command;
 
@@ -90,23 +90,23 @@ fn is_code_head(a: u8, b: u8) -> bool
 
 // Tag, place and length of the data of a message of good shape, or 4.
 pub fn shape(message: &[u8]) -> Opened
-    ensures { λ r. ⌜ Tells r (shaped (now (message .entry))) (cond (hasShape (now (message .entry))) 0 4) (now (message .entry)) ⌝ }
+    ensures { λ r. ⌜ Tells r (shaped (now (message .entry))) (shapeNumber (now (message .entry))) (now (message .entry)) ⌝ }
 {
     let length = length_of(message);
     if length > LARGEST {
-        return Opened::Refused(4);
+        return Opened::Refused(Refusal::SHAPE_WRONG);
     }
     let place = place_of(length);
     let end = place + length;
     if message.len() != end + 6 {
-        return Opened::Refused(4);
+        return Opened::Refused(Refusal::SHAPE_WRONG);
     }
     let tag = message[0];
     if !is_tag(tag) {
-        return Opened::Refused(4);
+        return Opened::Refused(Refusal::SHAPE_WRONG);
     }
     if !is_code_head(message[end], message[end + 1]) {
-        return Opened::Refused(4);
+        return Opened::Refused(Refusal::SHAPE_WRONG);
     }
     Opened::Data { tag, place, length }
 }

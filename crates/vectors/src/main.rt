@@ -4,14 +4,12 @@ mod readings;
 
 ghost use Prim.Native.Nat.{_≤_, _<_};
 ghost use lib.ListN.{length};
-use cipher::BlockAnswer;
+use answers::BlockAnswer;
 use cipher::CodeAnswer;
-use cryptogram::Answer;
 use cryptogram::Kind;
 use derive::KeyAnswer;
 use libc::STDIN_FILENO;
 use libc::STDOUT_FILENO;
-use pin::PinBlock;
 
 // A word of a line: its first place, and the place after its last.
 pub struct Word {
@@ -120,16 +118,6 @@ fn answer_key(r: KeyAnswer) {
     answer(r.code, &bytes);
 }
 
-fn answer_cryptogram(r: Answer) {
-    let bytes = r.bytes;
-    answer(r.code, &bytes);
-}
-
-fn answer_pin(r: PinBlock) {
-    let bytes = r.bytes;
-    answer(r.code, &bytes);
-}
-
 // A number of one or two bytes, high first.
 fn number(b: &[u8]) -> u16 {
     if b.len() == 1 {
@@ -205,11 +193,11 @@ fn labelled(key: &[u8], label: &[u8], seed: &[u8]) {
 // The operations of `pin`.
 fn run_pins(name: &[u8], a: &[u8], b: &[u8]) {
     if octets::same(name, b"write-pin") {
-        answer_pin(pin::write_pin(a));
+        answer_block(pin::write_pin(a));
         return;
     }
     if octets::same(name, b"encipher-pin") {
-        answer_pin(pin::encipher_pin(a, b));
+        answer_block(pin::encipher_pin(a, b));
         return;
     }
     io::write_all(STDOUT_FILENO, b" unknown");
@@ -218,19 +206,19 @@ fn run_pins(name: &[u8], a: &[u8], b: &[u8]) {
 // The operations of `cryptogram`.
 fn run_cryptograms(name: &[u8], a: &[u8], b: &[u8], c: &[u8]) {
     if octets::same(name, b"arqc") {
-        answer_cryptogram(cryptogram::cryptogram(a, Kind::Arqc, number(b), c));
+        answer_block(cryptogram::cryptogram(a, Kind::Arqc, number(b), c));
         return;
     }
     if octets::same(name, b"tc") {
-        answer_cryptogram(cryptogram::cryptogram(a, Kind::Tc, number(b), c));
+        answer_block(cryptogram::cryptogram(a, Kind::Tc, number(b), c));
         return;
     }
     if octets::same(name, b"aac") {
-        answer_cryptogram(cryptogram::cryptogram(a, Kind::Aac, number(b), c));
+        answer_block(cryptogram::cryptogram(a, Kind::Aac, number(b), c));
         return;
     }
     if octets::same(name, b"arpc") {
-        answer_cryptogram(cryptogram::arpc(a, b, c));
+        answer_block(cryptogram::arpc(a, b, c));
         return;
     }
     run_pins(name, a, b);

@@ -11,9 +11,6 @@ returns c = search judge-header
 returns-2 : tie.Need-returns-2
 returns-2 c = search judge-shape
 
-returns-3 : tie.Need-returns-3
-returns-3 c = search judge-unlisted
-
 add-end : tie.Need-add-end
 add-end c =
     let w = told-data _ _ _ _ _ (c .before .before .before .before .before .before .before .shape .ensures) (c .before .before .before .before .before .tag .given .1) in
@@ -25,8 +22,11 @@ part-obey-end c = search judge-end
 obey-requires : tie.Need-obey-requires
 obey-requires c κs = search judge-data
 
+returns-3 : tie.Need-returns-3
+returns-3 c = search judge-listed
+
 returns-4 : tie.Need-returns-4
-returns-4 c = search judge-listed
+returns-4 c = search judge-unlisted
 
 pub judge-spec : {M : Type 1} → statement M
 judge-spec =
@@ -41,12 +41,13 @@ judge-spec =
     returns-2
     (λ c κs. search needs)
     (λ c. search needs)
-    (λ c. search needs)
-    (λ c κs. search needs)
-    returns-3
     add-end
     (λ c. search needs)
     (λ c. search needs)
     part-obey-end
     obey-requires
+    (λ c. search needs)
+    (λ c κs. search needs)
+    (λ c κs. search needs)
+    returns-3
     returns-4)

@@ -1,27 +1,27 @@
 use mathlib.Core.Path.{ap, _∙_}
 use denote.Ref.{now}
 use Rattle.gost.specs.Gost.{subkeys}
+use Rattle.answers.specs.Answers.{aBlock}
 use Rattle.cryptogram.specs.Cryptogram.{doubleCode, arpcOf}
-use Rattle.cryptogram.specs.Answers.{yes}
 use Rattle.cryptogram.proofs.AnswerLaws.{arpc-no-key, arpc-no-cryptogram, arpc-no-csu, arpc-made}
 use borrow.Author.Needs.{needs}
 use Rattle.cryptogram.proofs.arpc.Statement.{statement}
 use Rattle.cryptogram.proofs.arpc.Tie as tie
 
 returns : tie.Need-returns
-returns c = c .refused .ensures ∙ search arpc-no-key
+returns c = c .no-block .ensures ∙ search arpc-no-key
 
 returns-2 : tie.Need-returns-2
-returns-2 c = c .refused2 .ensures ∙ search arpc-no-cryptogram
+returns-2 c = c .no-block2 .ensures ∙ search arpc-no-cryptogram
 
 returns-3 : tie.Need-returns-3
-returns-3 c = c .refused3 .ensures ∙ search arpc-no-csu
+returns-3 c = c .no-block3 .ensures ∙ search arpc-no-csu
 
 returns-4 : tie.Need-returns-4
-unfolding yes arpcOf
+unfolding arpcOf
 returns-4 c =
     let x = c .before .before .before .before .before .before .before .before .args in
-    ap yes (c .double-code .ensures ∙ ap (doubleCode (subkeys 8 (now (x .key)))) (c .before .arpc-string .ensures)) ∙ search arpc-made
+    ap aBlock (c .double-code .ensures ∙ ap (doubleCode (subkeys 8 (now (x .key)))) (c .before .arpc-string .ensures)) ∙ search arpc-made
 
 pub arpc-spec : {M : Type 1} → statement M
 arpc-spec =

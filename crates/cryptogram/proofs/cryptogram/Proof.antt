@@ -1,24 +1,24 @@
 use mathlib.Core.Path.{ap, _∙_}
 use denote.Ref.{now}
 use Rattle.gost.specs.Gost.{subkeys}
+use Rattle.answers.specs.Answers.{aBlock}
 use Rattle.cryptogram.specs.Cryptogram.{doubleCode, cryptogramOf}
-use Rattle.cryptogram.specs.Answers.{yes}
 use Rattle.cryptogram.proofs.AnswerLaws.{no-key, no-data, made}
 use borrow.Author.Needs.{needs}
 use Rattle.cryptogram.proofs.cryptogram.Statement.{statement}
 use Rattle.cryptogram.proofs.cryptogram.Tie as tie
 
 returns : tie.Need-returns
-returns c = c .refused .ensures ∙ search no-key
+returns c = c .no-block .ensures ∙ search no-key
 
 returns-2 : tie.Need-returns-2
-returns-2 c = c .refused2 .ensures ∙ search no-data
+returns-2 c = c .no-block2 .ensures ∙ search no-data
 
 returns-3 : tie.Need-returns-3
-unfolding yes cryptogramOf
+unfolding cryptogramOf
 returns-3 c =
     let x = c .before .before .before .before .before .before .args in
-    ap yes (c .double-code .ensures ∙ ap (doubleCode (subkeys 8 (now (x .key)))) (c .before .string-of .ensures)) ∙ search made
+    ap aBlock (c .double-code .ensures ∙ ap (doubleCode (subkeys 8 (now (x .key)))) (c .before .string-of .ensures)) ∙ search made
 
 pub cryptogram-spec : {M : Type 1} → statement M
 cryptogram-spec =

@@ -1,5 +1,5 @@
 use borrow.Author.Needs.{needs}
-use Rattle.cipher.specs.declared.BlockAnswer.{BlockAnswer}
+use Rattle.answers.specs.declared.BlockAnswer.{BlockAnswer}
 use Rattle.exports.proofs.GiveLaws.{given}
 use Rattle.exports.proofs.box_decipher.Statement.{statement}
 use Rattle.exports.proofs.box_decipher.Tie as tie

@@ -2,7 +2,7 @@ use mathlib.Core.Path.{sym, ap, _∙_}
 use denote.Ref.{now}
 use borrow.Author.Tests.{not-false}
 use Rattle.cipher.specs.Answers.{enciphered}
-use Rattle.pin.specs.Answers.{written}
+use Rattle.answers.specs.Answers.{aBlock}
 use Rattle.pin.proofs.AnswerLaws.{encipher-no-key, encipher-no-digits, encipher-yes}
 use borrow.Author.Needs.{needs}
 use Rattle.pin.proofs.encipher_pin.Statement.{statement}
@@ -18,7 +18,6 @@ block-of-requires : tie.Need-block-of-requires
 block-of-requires c κs = sym (c .before .pin-fits .ensures) ∙ not-false _ (c .if2 .left)
 
 returns-3 : tie.Need-returns-3
-unfolding written
 returns-3 c =
     let x = c .before .before .before .before .before .before .before .before .before .args in
     encipher-yes (now (x .digits)) _ (c .before .before .before .before .before .pin-fits .ensures) (now (x .key)) (c .before .before .before .before .before .before .if1 .left) (c .before .before .before .before .if2 .left)

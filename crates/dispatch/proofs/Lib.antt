@@ -1,0 +1,5 @@
+pub mod Ours
+pub mod Unreadable
+pub mod Pieces
+pub mod Calls
+pub mod NoOther

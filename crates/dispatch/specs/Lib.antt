@@ -1,0 +1,3 @@
+pub mod Dispatch
+pub mod Behind
+pub mod Statement

@@ -34,7 +34,7 @@ use Rattle.hash.proofs.Laws.{length-hash256}
 use Rattle.derive.specs.declared.KeyAnswer.{KeyAnswer}
 use Rattle.derive.specs.Hmac.{hmac}
 use Rattle.derive.specs.Derivation.{derived, cardLabel}
-use Rattle.derive.specs.Answers.{derivation, yes as keyYes}
+use Rattle.derive.specs.Answers.{cardDerivation, yes as keyYes}
 use Rattle.derive.proofs.Laws as derivations
 use Rattle.keys.specs.Seeds.{sessionSeed}
 use Rattle.keys.proofs.AnswerLaws.{counter-yes}
@@ -90,9 +90,9 @@ length-session : (r : Card) → length (sessionKeyOf r) ≡ 32
 unfolding sessionKeyOf
 length-session r = length-derived _ _ _
 
-key-made : (key seed : List ℕ) (x : KeyAnswer) → length key ≡ 32 → length seed ≡ 8 → x ≡ derivation key seed → x .bytes ≡ derived key cardLabel seed
+key-made : (key seed : List ℕ) (x : KeyAnswer) → length key ≡ 32 → length seed ≡ 8 → x ≡ cardDerivation key seed → x .bytes ≡ derived key cardLabel seed
 unfolding keyYes
-key-made key seed x k l e = ap (λ (y : KeyAnswer). y .bytes) (e ∙ sym (derivations.fits key seed k l))
+key-made key seed x k l e = ap (λ (y : KeyAnswer). y .bytes) (e ∙ sym (derivations.fits key cardLabel seed k ∙ derivations.card-seed key seed l))
 
 pub key-session : (r : Card) (x : KeyAnswer) → length (r .ac) ≡ 32 → x ≡ sessionKey (r .ac) (r .atc) → x .bytes ≡ sessionKeyOf r
 unfolding sessionKeyOf sessionKey

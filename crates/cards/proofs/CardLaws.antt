@@ -11,11 +11,11 @@ use lib.ListN.{length, getD, take, drop, replicate, length-drop}
 use lib.Seq.{paste, take-paste, length-paste, drop-drop, take-all, getD-take, getD-drop, length-take-le}
 use Rattle.octets.specs.Lengths.{keyFits}
 use Rattle.octets.proofs.Parts.{part-part}
-use Rattle.derive.specs.declared.Kept.{Kept}
+use Rattle.derive.specs.declared.KeyAnswer.{KeyAnswer}
 use Rattle.derive.specs.Derivation.{derived, cardLabel}
 use Rattle.derive.specs.Kept.{kept, derivedKept}
-use Rattle.derive.specs.Answers.{yes}
-use Rattle.derive.proofs.Laws.{derived-kept}
+use Rattle.derive.specs.Answers.{yes, derivationKept}
+use Rattle.derive.proofs.Laws.{kept-fits, derived-kept}
 use Rattle.keys.specs.declared.SeedAnswer.{SeedAnswer}
 use Rattle.keys.specs.CardNumber.{cardFits, Y}
 use Rattle.keys.specs.Answers.{cardAnswer, cardKey, seedAnswer}
@@ -106,7 +106,7 @@ module _ (cs : List ℕ) (n i : ℕ) (h : i < n) where
       ∙ ap (λ (k : ℕ). allFit k (drop (21 * i) cs)) (sym left)
 
   -- a key written
-  pub key-turn : (k : Kept) (out key : List ℕ) → length out ≡ 32 * n → length key ≡ 32 → key ≡ derivedKept k cardLabel (seedOf (take 21 (drop (21 * i) cs)) .bytes)
+  pub key-turn : (k out key : List ℕ) → length out ≡ 32 * n → length key ≡ 32 → key ≡ derivedKept k cardLabel (seedOf (take 21 (drop (21 * i) cs)) .bytes)
       → take (32 * (i + 1)) (paste out (32 * i) key 32) ++ keysBy k (n - (i + 1)) (drop (21 * (i + 1)) cs) ≡ take (32 * i) out ++ keysBy k (n - i) (drop (21 * i) cs)
   unfolding keysBy
   key-turn k out key m l e =
@@ -122,16 +122,17 @@ pub fit-end : (cs : List ℕ) (n i : ℕ) → n ≤ i → true ≡ allFit (n - i
 unfolding allFit
 fit-end cs n i h = let e : 0 ≡ n - i = omega arith in ap (λ (k : ℕ). allFit k (drop (21 * i) cs)) e
 
-pub key-end : (k : Kept) (cs out : List ℕ) (n i : ℕ) → i ≡ n → length out ≡ 32 * n → out ≡ take (32 * i) out ++ keysBy k (n - i) (drop (21 * i) cs)
+pub key-end : (k cs out : List ℕ) (n i : ℕ) → i ≡ n → length out ≡ 32 * n → out ≡ take (32 * i) out ++ keysBy k (n - i) (drop (21 * i) cs)
 unfolding keysBy
 key-end k cs out n i e m =
     let z : 0 ≡ n - i = omega arith in
     sym (take-all (32 * i) out (omega arith)) ∙ sym (append-nil (take (32 * i) out)) ∙ ap (λ (j : ℕ). take (32 * i) out ++ keysBy k j (drop (21 * i) cs)) z
 
--- the label, as the code has it
-pub label : (k : Kept) (seed x : List ℕ) → x ≡ derivedKept k (0x21 ∷ 0x07 ∷ 0x22 ∷ 0xe6 ∷ []) seed → x ≡ derivedKept k cardLabel seed
-unfolding cardLabel
-label k seed x e = e
+-- a key comes with no refusal where the words are 256
+pub key-bytes : (ws seed : List ℕ) (r : KeyAnswer) (l : List ℕ) → length ws ≡ 256 → l ≡ cardLabel → r ≡ derivationKept ws l seed → r .bytes ≡ derivedKept ws cardLabel seed
+unfolding yes
+key-bytes ws seed r l h e f =
+    ap (λ (x : KeyAnswer). x .bytes) (f ∙ ap (λ (x : List ℕ). derivationKept ws x seed) e ∙ sym (kept-fits ws cardLabel seed h))
 
 -- the keys under the kept key are the cards' keys
 module _ (key : List ℕ) (h : length key ≡ 32) where

@@ -2,7 +2,6 @@
 use Prim.Native.Nat.{ℕ, zero, suc}
 use mathlib.Core.List.{List, [], _++_}
 use lib.ListN.{take, drop}
-use Rattle.derive.specs.declared.Kept.{Kept}
 use Rattle.derive.specs.Derivation.{cardLabel}
 use Rattle.derive.specs.Kept.{derivedKept}
 use Rattle.keys.specs.declared.SeedAnswer.{SeedAnswer}
@@ -12,7 +11,7 @@ use Rattle.cards.specs.Cards.{panOf, sequenceOf}
 unfoldable pub seedOf : List ℕ → SeedAnswer
 seedOf c = seedAnswer (panOf c) (sequenceOf c)
 
--- the keys of the first n cards under a kept key
-unfoldable pub keysBy : Kept → ℕ → List ℕ → List ℕ
-keysBy k zero cs = []
-keysBy k (suc n) cs = derivedKept k cardLabel (seedOf (take 21 cs) .bytes) ++ keysBy k n (drop 21 cs)
+-- the keys of the first n cards under the words of a kept key
+unfoldable pub keysBy : List ℕ → ℕ → List ℕ → List ℕ
+keysBy ws zero cs = []
+keysBy ws (suc n) cs = derivedKept ws cardLabel (seedOf (take 21 cs) .bytes) ++ keysBy ws n (drop 21 cs)

@@ -5,11 +5,7 @@ ghost use lib.ListN.{length, take, drop};
 ghost use lib.Seq.{paste};
 ghost use Rattle.cards.specs.Cards.{allFit, cardsNumber, cardsAfter};
 ghost use Rattle.cards.specs.Inner.{seedOf, keysBy};
-use derive::Kept;
 use keys::SeedAnswer;
-
-// The label of card and session keys.
-const CARD_LABEL: [u8; 4] = [0x21, 0x07, 0x22, 0xe6];
 
 // The seed of the card at a place.
 fn seed_at(cards: &[u8], p: usize) -> SeedAnswer
@@ -42,20 +38,6 @@ fn all_fit(cards: &[u8], n: usize) -> bool
     true
 }
 
-// The 32 bytes of a key.
-fn key_of(key: &[u8]) -> [u8; 32]
-    requires { ⌜ length (now key) ≡ 32 ⌝ }
-    ensures { λ r. ⌜ r ≡ now (key .entry) ⌝ }
-{
-    let mut out = [0; 32];
-    let mut i = 0;
-    while i < 32 {
-        out[i] = key[i];
-        i += 1;
-    }
-    out
-}
-
 // A key written from a place on.
 fn put(out: &mut [u8], p: usize, key: [u8; 32])
     requires { ⌜ p + 32 ≤ length (now out) ⌝ }
@@ -68,16 +50,18 @@ fn put(out: &mut [u8], p: usize, key: [u8; 32])
     }
 }
 
-// The keys of the first n cards under a kept key.
-fn put_keys(k: Kept, cards: &[u8], n: usize, out: &mut [u8])
-    requires { ⌜ (21 * n ≤ length (now cards)) × (length (now out) ≡ 32 * n) ⌝ }
-    ensures { λ _. ⌜ now (out .exit) ≡ keysBy k n (now (cards .entry)) ⌝ }
+// The keys of the first n cards under the words of a kept key.
+fn put_keys(kept: &[u64], cards: &[u8], n: usize, out: &mut [u8])
+    requires { ⌜ (length (now kept) ≡ 256) × (21 * n ≤ length (now cards)) × (length (now out) ≡ 32 * n) ⌝ }
+    ensures { λ _. ⌜ now (out .exit) ≡ keysBy (now (kept .entry)) n (now (cards .entry)) ⌝ }
 {
     let mut i = 0;
     while i < n {
         let s = seed_at(cards, 21 * i);
         let seed = s.bytes;
-        put(out, 32 * i, derive::derive_kept(k, CARD_LABEL, seed));
+        let r = derive::derive_kept(kept, derive::card_label(), seed);
+        let key = r.bytes;
+        put(out, 32 * i, key);
         i += 1;
     }
 }
@@ -106,6 +90,6 @@ pub fn card_keys(issuer: &[u8], cards: &[u8], out: &mut [u8]) -> u8
     if !all_fit(cards, n) {
         return 2;
     }
-    put_keys(derive::keep(key_of(issuer)), cards, n, out);
+    put_keys(&derive::keep(derive::key_of(issuer)), cards, n, out);
     0
 }

@@ -1,26 +1,28 @@
 -- A started key gives what the key gives; and what the entry points answer, test by test. Assumes nothing.
-use mathlib.Core.Path.{_≡_, sym, ap, ap₂, _∙_}
-use mathlib.Core.Bool.{and-false}
-use mathlib.Core.List.{List, [], _∷_, _++_}
-use Prim.Native.Nat.{ℕ}
+use mathlib.Core.Path.{_≡_, refl, sym, ap, ap₂, _∙_}
+use mathlib.Core.List.{List, [], _∷_, _++_, append-nil}
+use Prim.Native.Nat.{ℕ, _+_, _-_}
+use native.Mathlib.Omega.{arith}
 use borrow.Author.Tests.{eq-eqb, ne-eqb}
-use lib.ListN.{length, getD}
-use Rattle.octets.proofs.Parts.{elements, elements-all}
+use lib.Dec.{lit≤}
+use lib.ListN.{length, take, drop, replicate, length-append, length-drop}
+use lib.Seq.{take-at, drop-at, take-all}
+use Rattle.octets.proofs.Parts.{zeros, elements, elements-all}
+use Rattle.rounds.specs.Lent.{laid}
+use Rattle.rounds.proofs.LentLaws.{laid-zeros}
 use Rattle.hash.specs.declared.State.{State}
 use Rattle.hash.specs.Hash.{hash256}
 use Rattle.hash.specs.States.{begun, fed, ended}
 use Rattle.hash.specs.Ahead.{aheadOf, endedAhead}
 use Rattle.hash.proofs.Laws.{fed-fed, ended-fed}
-use Rattle.hash.proofs.AheadLaws.{ended-ahead, fed-block}
-use Rattle.derive.specs.declared.Kept.{Kept}
-use Rattle.derive.specs.Kept.{kept, derivedKept}
+use Rattle.hash.proofs.AheadLaws.{length-ahead, eights-fed, ended-ahead, fed-block}
+use Rattle.derive.specs.Kept.{kept, keptFits, derivedKept}
 use Rattle.derive.proofs.PadLaws.{length-ipad, length-opad}
-use Rattle.derive.specs.declared.Started.{Started}
 use Rattle.derive.specs.Hmac.{ipad, opad, hmac}
 use Rattle.derive.specs.Derivation.{string, derived, cardLabel}
-use Rattle.derive.specs.Started.{started, hmacWith, derivedWith}
+use Rattle.derive.specs.Started.{started, hmacWith}
 use Rattle.octets.specs.Lengths.{keyFits}
-use Rattle.derive.specs.Answers.{seedFits, noKey, yes, maced, derivation}
+use Rattle.derive.specs.Answers.{seedFits, noKey, yes, maced, derivation, cardDerivation, derivationKept, keyOf}
 
 two-parts : (x y : List ℕ) → ended (fed (fed begun x) y) ≡ hash256 (x ++ y)
 two-parts x y = ap ended (fed-fed begun x y) ∙ ended-fed (x ++ y)
@@ -31,43 +33,69 @@ unfolding hmacWith started hmac
 hmac-started key m =
     ap (λ (x : List ℕ). ended (fed (fed begun (opad key)) x)) (two-parts (ipad key) m) ∙ two-parts (opad key) (hash256 (ipad key ++ m))
 
--- and every label and seed its key, whatever the seed's length
-pub derived-started : (key label seed : List ℕ) → derivedWith (started key) label seed ≡ derived key label seed
-unfolding derivedWith derived
-derived-started key label seed = hmac-started key (string label seed)
+-- the string fed in five parts
+pub derived-parts : (key label seed : List ℕ)
+    → ended (fed (started key .outer) (ended (fed (fed (fed (fed (fed (started key .inner) (0x01 ∷ [])) label) (0x00 ∷ [])) seed) (0x01 ∷ 0x00 ∷ []))))
+    ≡ derived key label seed
+unfolding derived string hmacWith
+derived-parts key label seed =
+    let i : State = started key .inner in
+    let end : List ℕ = 0x01 ∷ 0x00 ∷ [] in
+    let all =
+    fed-fed (fed (fed (fed i (0x01 ∷ [])) label) (0x00 ∷ [])) seed end
+    ∙ fed-fed (fed (fed i (0x01 ∷ [])) label) (0x00 ∷ []) (seed ++ end)
+    ∙ fed-fed (fed i (0x01 ∷ [])) label (0x00 ∷ (seed ++ end))
+    ∙ fed-fed i (0x01 ∷ []) (label ++ (0x00 ∷ (seed ++ end))) in
+    ap (λ (s : State). ended (fed (started key .outer) (ended s))) all ∙ hmac-started key (string label seed)
 
--- the string fed in three parts
-pub derived-parts : (k : Started) (label seed : List ℕ) → length label ≡ 4
-    → ended (fed (k .outer) (ended (fed (fed (fed (k .inner) (0x01 ∷ getD label 0 0 ∷ getD label 1 0 ∷ getD label 2 0 ∷ getD label 3 0 ∷ 0x00 ∷ [])) seed) (0x01 ∷ 0x00 ∷ []))))
-    ≡ derivedWith k label seed
-unfolding derivedWith hmacWith string
-derived-parts k label seed h =
-    let head : List ℕ = 0x01 ∷ getD label 0 0 ∷ getD label 1 0 ∷ getD label 2 0 ∷ getD label 3 0 ∷ 0x00 ∷ [] in
-    ap (λ (s : State). ended (fed (k .outer) (ended s)))
-    (ap (λ (s : State). fed s (0x01 ∷ 0x00 ∷ [])) (fed-fed (k .inner) head seed) ∙ fed-fed (k .inner) (head ++ seed) (0x01 ∷ 0x00 ∷ []))
-    ∙ ap (λ (l : List ℕ). ended (fed (k .outer) (ended (fed (k .inner) (0x01 ∷ (l ++ 0x00 ∷ (seed ++ 0x01 ∷ 0x00 ∷ []))))))) (sym (elements-all label 4 h))
+-- a key kept: the words of the inner hash, and those of the outer
+module _ (key : List ℕ) where
+  abbrev inner : List ℕ
+  inner = aheadOf (started key .inner .core)
 
--- a key kept gives what the key gives
-pub derived-kept : (key label seed : List ℕ) → length key ≡ 32 → derivedKept (kept key) label seed ≡ derived key label seed
-unfolding derivedKept kept started derived hmac
-derived-kept key label seed e =
-    let i : State = fed begun (ipad key) in
-    let o : State = fed begun (opad key) in
-    ended-ahead (o .core) (endedAhead (aheadOf (i .core)) (string label seed))
-    ∙ ap₂ (λ (s : State) (x : List ℕ). ended (fed s x)) (fed-block (opad key) (length-opad key e))
-    (ended-ahead (i .core) (string label seed)
-    ∙ ap (λ (s : State). ended (fed s (string label seed))) (fed-block (ipad key) (length-ipad key e))
-    ∙ two-parts (ipad key) (string label seed))
-    ∙ two-parts (opad key) (hash256 (ipad key ++ string label seed))
+  abbrev outer : List ℕ
+  outer = aheadOf (started key .outer .core)
+
+  length-inner : length inner ≡ 128
+  unfolding started
+  length-inner = length-ahead (fed begun (ipad key) .core) (eights-fed (ipad key))
+
+  length-outer : length outer ≡ 128
+  unfolding started
+  length-outer = length-ahead (fed begun (opad key) .core) (eights-fed (opad key))
+
+  pub length-kept : length (kept key) ≡ 256
+  unfolding kept
+  length-kept = length-append inner outer ∙ ap₂ (λ (x y : ℕ). x + y) length-inner length-outer
+
+  pub kept-laid : (a b x y : List ℕ) → a ≡ inner → b ≡ outer → x ≡ laid (zeros 256) 0 a → y ≡ laid x 128 b → y ≡ kept key
+  unfolding kept
+  kept-laid a b x y ea eb ex ey =
+      ey
+      ∙ ap₂ (λ (v w : List ℕ). laid v 128 w) (ex ∙ ap (laid (zeros 256) 0) ea ∙ laid-zeros [] inner 0 128 256 refl length-inner (lit≤ tt)) eb
+      ∙ laid-zeros inner outer 128 128 128 length-inner length-outer (lit≤ tt)
+      ∙ append-nil (inner ++ outer)
+
+  -- it gives what the key gives
+  pub derived-kept : (label seed : List ℕ) → length key ≡ 32 → derivedKept (kept key) label seed ≡ derived key label seed
+  unfolding derivedKept kept started derived hmac
+  derived-kept label seed e =
+      let i : State = fed begun (ipad key) in
+      let o : State = fed begun (opad key) in
+      let m : List ℕ = string label seed in
+      ap₂ (λ (x y : List ℕ). endedAhead y (endedAhead x m)) (take-at inner outer 128 length-inner) (drop-at inner outer 128 length-inner)
+      ∙ ended-ahead (o .core) (eights-fed (opad key)) (endedAhead (aheadOf (i .core)) m)
+      ∙ ap₂ (λ (s : State) (x : List ℕ). ended (fed s x)) (fed-block (opad key) (length-opad key e))
+      (ended-ahead (i .core) (eights-fed (ipad key)) m
+      ∙ ap (λ (s : State). ended (fed s m)) (fed-block (ipad key) (length-ipad key e))
+      ∙ two-parts (ipad key) m)
+      ∙ two-parts (opad key) (hash256 (ipad key ++ m))
 
 -- the string as the code has it
-pub kept-string : (k : Kept) (label seed : List ℕ) → length label ≡ 4 → length seed ≡ 8
-    → endedAhead (k .outer) (endedAhead (k .inner) (0x01 ∷ elements label 0 0 4 ++ 0x00 ∷ elements seed 0 0 8 ++ 0x01 ∷ 0x00 ∷ []))
-    ≡ derivedKept k label seed
-unfolding derivedKept string
-kept-string k label seed h l =
-    ap₂ (λ (x y : List ℕ). endedAhead (k .outer) (endedAhead (k .inner) (0x01 ∷ (x ++ 0x00 ∷ (y ++ 0x01 ∷ 0x00 ∷ [])))))
-    (sym (elements-all label 4 h)) (sym (elements-all seed 8 l))
+pub string-made : (label seed : List ℕ) → length label ≡ 4 → length seed ≡ 8
+    → 0x01 ∷ elements label 0 0 4 ++ 0x00 ∷ elements seed 0 0 8 ++ 0x01 ∷ 0x00 ∷ [] ≡ string label seed
+unfolding string
+string-made label seed h l = ap₂ (λ (x y : List ℕ). 0x01 ∷ (x ++ 0x00 ∷ (y ++ 0x01 ∷ 0x00 ∷ []))) (sym (elements-all label 4 h)) (sym (elements-all seed 8 l))
 
 module _ (key m : List ℕ) where
   pub hmac-no-key : (length key ≡ 32 → ⊥) → noKey 1 ≡ maced key m
@@ -78,15 +106,56 @@ module _ (key m : List ℕ) where
   unfolding maced keyFits
   hmac-fits h = simp (eq-eqb _ _ h)
 
-module _ (key seed : List ℕ) where
-  pub no-key : (length key ≡ 32 → ⊥) → noKey 1 ≡ derivation key seed
+module _ (key label seed : List ℕ) where
+  pub no-key : (length key ≡ 32 → ⊥) → noKey 1 ≡ derivation key label seed
   unfolding derivation keyFits
   no-key h = simp (ne-eqb _ _ h)
 
-  pub no-seed : (length seed ≡ 8 → ⊥) → noKey 1 ≡ derivation key seed
-  unfolding derivation seedFits
-  no-seed h = simp (ne-eqb _ _ h, and-false)
+  pub fits : length key ≡ 32 → yes (derived key label seed) ≡ derivation key label seed
+  unfolding derivation keyFits
+  fits h = simp (eq-eqb _ _ h)
 
-  pub fits : length key ≡ 32 → length seed ≡ 8 → yes (derived key cardLabel seed) ≡ derivation key seed
-  unfolding derivation keyFits seedFits
-  fits h l = simp (eq-eqb _ _ h, eq-eqb _ _ l)
+  -- the derivation is the HMAC of the string
+  pub derivation-maced : maced key (string label seed) ≡ derivation key label seed
+  unfolding maced derivation derived
+  derivation-maced = refl
+
+  -- and under the kept key it is the same
+  pub derivation-kept : length key ≡ 32 → derivationKept (kept key) label seed ≡ derivation key label seed
+  unfolding derivationKept keptFits
+  derivation-kept h = simp (eq-eqb _ _ (length-kept key)) (ap yes (derived-kept key label seed h) ∙ fits h)
+
+module _ (key seed : List ℕ) where
+  pub card-no-seed : (length seed ≡ 8 → ⊥) → noKey 1 ≡ cardDerivation key seed
+  unfolding cardDerivation seedFits
+  card-no-seed h = simp (ne-eqb _ _ h)
+
+  pub card-seed : length seed ≡ 8 → derivation key cardLabel seed ≡ cardDerivation key seed
+  unfolding cardDerivation seedFits
+  card-seed h = simp (eq-eqb _ _ h)
+
+module _ (ws label seed : List ℕ) where
+  pub kept-no-words : (length ws ≡ 256 → ⊥) → noKey 1 ≡ derivationKept ws label seed
+  unfolding derivationKept keptFits
+  kept-no-words h = simp (ne-eqb _ _ h)
+
+  pub kept-fits : length ws ≡ 256 → yes (derivedKept ws label seed) ≡ derivationKept ws label seed
+  unfolding derivationKept keptFits
+  kept-fits h = simp (eq-eqb _ _ h)
+
+  -- by the halves that the code lends
+  pub kept-lent : length ws ≡ 256 → (x y : List ℕ) → x ≡ endedAhead (take 128 ws) (string label seed)
+      → y ≡ endedAhead (take (length ws - 128) (drop 128 ws)) x → yes y ≡ derivationKept ws label seed
+  unfolding derivedKept
+  kept-lent h x y e f =
+      let n : length (drop 128 ws) ≡ 128 = length-drop 128 ws ∙ omega arith in
+      ap yes (f ∙ ap₂ endedAhead (take-all (length ws - 128) (drop 128 ws) (omega arith)) e) ∙ kept-fits h
+
+module _ (key : List ℕ) where
+  pub key-of-none : (length key ≡ 32 → ⊥) → replicate 32 0 ≡ keyOf key
+  unfolding keyOf keyFits
+  key-of-none h = simp (ne-eqb _ _ h)
+
+  pub key-of-fits : length key ≡ 32 → keyOf key ≡ key
+  unfolding keyOf keyFits
+  key-of-fits h = simp (eq-eqb _ _ h)

@@ -1,6 +1,6 @@
 -- What the entry points answer, for every input: 0 and the key, or refusal 1 of 01 and zeros. Assumes nothing.
 use Prim.Native.Nat.{ℕ}
-use mathlib.Core.Bool.{Bool, _&&_, cond}
+use mathlib.Core.Bool.{Bool, cond}
 use mathlib.Core.List.{List}
 use lib.Dec.{eqb}
 use lib.ListN.{length, replicate}
@@ -8,6 +8,7 @@ use Rattle.octets.specs.Lengths.{keyFits}
 use Rattle.derive.specs.declared.KeyAnswer.{KeyAnswer}
 use Rattle.derive.specs.Hmac.{hmac}
 use Rattle.derive.specs.Derivation.{derived, cardLabel}
+use Rattle.derive.specs.Kept.{keptFits, derivedKept}
 
 -- 01: a seed is 8 bytes
 unfoldable pub seedFits : List ℕ → Bool
@@ -23,5 +24,18 @@ yes x = record { code = 0; bytes = x }
 unfoldable pub maced : List ℕ → List ℕ → KeyAnswer
 maced key m = cond (keyFits key) (yes (hmac key m)) (noKey 1)
 
-unfoldable pub derivation : List ℕ → List ℕ → KeyAnswer
-derivation key seed = cond (keyFits key && seedFits seed) (yes (derived key cardLabel seed)) (noKey 1)
+-- RFC 7836, 4.5: label and seed of any length
+unfoldable pub derivation : List ℕ → List ℕ → List ℕ → KeyAnswer
+derivation key label seed = cond (keyFits key) (yes (derived key label seed)) (noKey 1)
+
+-- 01, Keys: "Derivation from key K and an 8-byte seed", under the label of card and session keys
+unfoldable pub cardDerivation : List ℕ → List ℕ → KeyAnswer
+cardDerivation key seed = cond (seedFits seed) (derivation key cardLabel seed) (noKey 1)
+
+-- the derivation under the words of a kept key
+unfoldable pub derivationKept : List ℕ → List ℕ → List ℕ → KeyAnswer
+derivationKept ws label seed = cond (keptFits ws) (yes (derivedKept ws label seed)) (noKey 1)
+
+-- the 32 bytes of a key; zeros for another length
+unfoldable pub keyOf : List ℕ → List ℕ
+keyOf key = cond (keyFits key) key (replicate 32 0)

@@ -1,13 +1,19 @@
--- A key kept for many seeds: its two hashes after the padded key, each with the round keys of its next block. Assumes nothing.
-use mathlib.Core.List.{List}
+-- A key kept for many seeds: its two hashes after the padded key, each with the round keys of its next block, as 256 words. Assumes nothing.
+use mathlib.Core.Bool.{Bool}
+use mathlib.Core.List.{List, _++_}
 use Prim.Native.Nat.{ℕ}
+use lib.Dec.{eqb}
+use lib.ListN.{length, take, drop}
 use Rattle.hash.specs.Ahead.{aheadOf, endedAhead}
-use Rattle.derive.specs.declared.Kept.{Kept}
 use Rattle.derive.specs.Derivation.{string}
 use Rattle.derive.specs.Started.{started}
 
-unfoldable pub kept : List ℕ → Kept
-kept key = record { inner = aheadOf (started key .inner .core); outer = aheadOf (started key .outer .core) }
+-- the words of the inner hash, and those of the outer
+unfoldable pub kept : List ℕ → List ℕ
+kept key = aheadOf (started key .inner .core) ++ aheadOf (started key .outer .core)
 
-unfoldable pub derivedKept : Kept → List ℕ → List ℕ → List ℕ
-derivedKept k label seed = endedAhead (k .outer) (endedAhead (k .inner) (string label seed))
+unfoldable pub keptFits : List ℕ → Bool
+keptFits ws = eqb (length ws) 256
+
+unfoldable pub derivedKept : List ℕ → List ℕ → List ℕ → List ℕ
+derivedKept ws label seed = endedAhead (drop 128 ws) (endedAhead (take 128 ws) (string label seed))

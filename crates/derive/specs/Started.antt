@@ -4,13 +4,9 @@ use Prim.Native.Nat.{ℕ}
 use Rattle.hash.specs.States.{begun, fed, ended}
 use Rattle.derive.specs.declared.Started.{Started}
 use Rattle.derive.specs.Hmac.{ipad, opad}
-use Rattle.derive.specs.Derivation.{string}
 
 unfoldable pub started : List ℕ → Started
 started key = record { inner = fed begun (ipad key); outer = fed begun (opad key) }
 
 unfoldable pub hmacWith : Started → List ℕ → List ℕ
 hmacWith k m = ended (fed (k .outer) (ended (fed (k .inner) m)))
-
-unfoldable pub derivedWith : Started → List ℕ → List ℕ → List ℕ
-derivedWith k label seed = hmacWith k (string label seed)

@@ -2,22 +2,17 @@
 ghost use mathlib.Core.Path.{_≡_};
 ghost use lib.ListN.{length};
 ghost use Rattle.derive.specs.Hmac.{padded};
-ghost use Rattle.derive.specs.Started.{started, hmacWith, derivedWith};
-ghost use Rattle.derive.specs.Kept.{kept, derivedKept};
-ghost use Rattle.derive.specs.Answers.{maced, derivation};
-use hash::Ahead;
+ghost use Rattle.derive.specs.Derivation.{string as stringOf, cardLabel};
+ghost use Rattle.derive.specs.Started.{started, hmacWith};
+ghost use Rattle.derive.specs.Kept.{kept};
+ghost use Rattle.derive.specs.Answers.{maced, derivation as derivationOf, cardDerivation, derivationKept, keyOf};
 use hash::State;
+use rounds::lay;
 
 // The inner and the outer hash of a key, started.
 pub struct Started {
     pub inner: State,
     pub outer: State,
-}
-
-// A key kept: its two hashes after their first block, each with the round keys of its next.
-pub struct Kept {
-    pub inner: Ahead,
-    pub outer: Ahead,
 }
 
 // A key or a code of 32 bytes, or a refusal's number and zeros.
@@ -26,8 +21,31 @@ pub struct KeyAnswer {
     pub bytes: [u8; 32],
 }
 
+// The words of a kept key: 128 of the inner hash, and 128 of the outer.
+pub const KEPT_WORDS: usize = 256;
+
 // The label of card and session keys.
-const CARD_LABEL: [u8; 4] = [0x21, 0x07, 0x22, 0xe6];
+pub fn card_label() -> [u8; 4]
+    ensures { λ r. ⌜ r ≡ cardLabel ⌝ }
+{
+    [0x21, 0x07, 0x22, 0xe6]
+}
+
+// The 32 bytes of a key; zeros for another length.
+pub fn key_of(key: &[u8]) -> [u8; 32]
+    ensures { λ r. ⌜ r ≡ keyOf (now (key .entry)) ⌝ }
+{
+    let mut out = [0; 32];
+    if key.len() != 32 {
+        return out;
+    }
+    let mut i = 0;
+    while i < 32 {
+        out[i] = key[i];
+        i += 1;
+    }
+    out
+}
 
 // The key with zeros up to 64 bytes, each byte xored with p.
 fn pad(p: u8, key: [u8; 32]) -> [u8; 64]
@@ -61,37 +79,46 @@ pub fn hmac_with(k: Started, m: &[u8]) -> [u8; 32]
     hash::end(hash::feed(outer, &x))
 }
 
-// The key derived from a started key, a label and a seed of any length.
-pub fn derive_with(k: Started, label: [u8; 4], seed: &[u8]) -> [u8; 32]
-    ensures { λ r. ⌜ r ≡ derivedWith k label (now (seed .entry)) ⌝ }
+// HMAC of a message under a key of 32 bytes; another length: 1.
+pub fn hmac(key: &[u8], m: &[u8]) -> KeyAnswer
+    ensures { λ r. ⌜ r ≡ maced (now (key .entry)) (now (m .entry)) ⌝ }
 {
-    let inner = k.inner;
-    let outer = k.outer;
-    let head = [0x01, label[0], label[1], label[2], label[3], 0x00];
-    let a = hash::feed(hash::feed(inner, &head), seed);
-    let x = hash::end(hash::feed(a, &[0x01, 0x00]));
-    hash::end(hash::feed(outer, &x))
+    if key.len() != 32 {
+        return KeyAnswer {
+            code: 1,
+            bytes: [0; 32],
+        };
+    }
+    let bytes = hmac_with(start(key_of(key)), m);
+    KeyAnswer { code: 0, bytes }
 }
 
-// A key, kept for many seeds: its first blocks and the round keys after them are paid for once.
-pub fn keep(key: [u8; 32]) -> Kept
-    ensures { λ r. ⌜ r ≡ kept key ⌝ }
+// The key derived from a key of 32 bytes, a label and a seed of any length; another key: 1.
+pub fn derivation(key: &[u8], label: &[u8], seed: &[u8]) -> KeyAnswer
+    ensures { λ r. ⌜ r ≡ derivationOf (now (key .entry)) (now (label .entry)) (now (seed .entry)) ⌝ }
 {
-    let s = start(key);
+    if key.len() != 32 {
+        return KeyAnswer {
+            code: 1,
+            bytes: [0; 32],
+        };
+    }
+    let s = start(key_of(key));
     let inner = s.inner;
     let outer = s.outer;
-    let a = hash::keep(inner.core);
-    let b = hash::keep(outer.core);
-    Kept { inner: a, outer: b }
+    let a = hash::feed(hash::feed(inner, &[0x01]), label);
+    let b = hash::feed(hash::feed(a, &[0x00]), seed);
+    let x = hash::end(hash::feed(b, &[0x01, 0x00]));
+    let bytes = hash::end(hash::feed(outer, &x));
+    KeyAnswer { code: 0, bytes }
 }
 
-// The key derived from a kept key, a label and a seed.
-pub fn derive_kept(k: Kept, label: [u8; 4], seed: [u8; 8]) -> [u8; 32]
-    ensures { λ r. ⌜ r ≡ derivedKept k label seed ⌝ }
+// What the derivation takes the HMAC of, for a label of 4 bytes and a seed of 8.
+fn string(label: [u8; 4], seed: &[u8]) -> [u8; 16]
+    requires { ⌜ length (now seed) ≡ 8 ⌝ }
+    ensures { λ r. ⌜ r ≡ stringOf label (now (seed .entry)) ⌝ }
 {
-    let inner = k.inner;
-    let outer = k.outer;
-    let m = [
+    [
         0x01,
         label[0],
         label[1],
@@ -108,55 +135,46 @@ pub fn derive_kept(k: Kept, label: [u8; 4], seed: [u8; 8]) -> [u8; 32]
         seed[7],
         0x01,
         0x00,
-    ];
-    let x = hash::end_ahead(inner, &m);
-    hash::end_ahead(outer, &x)
-}
-
-// The 32 bytes of a key.
-fn key_of(key: &[u8]) -> [u8; 32]
-    requires { ⌜ length (now key) ≡ 32 ⌝ }
-    ensures { λ r. ⌜ r ≡ now (key .entry) ⌝ }
-{
-    let mut out = [0; 32];
-    let mut i = 0;
-    while i < 32 {
-        out[i] = key[i];
-        i += 1;
-    }
-    out
-}
-
-// HMAC of a message under a key of 32 bytes; another length: 1.
-pub fn hmac(key: &[u8], m: &[u8]) -> KeyAnswer
-    ensures { λ r. ⌜ r ≡ maced (now (key .entry)) (now (m .entry)) ⌝ }
-{
-    if key.len() != 32 {
-        return KeyAnswer {
-            code: 1,
-            bytes: [0; 32],
-        };
-    }
-    let bytes = hmac_with(start(key_of(key)), m);
-    KeyAnswer { code: 0, bytes }
+    ]
 }
 
 // The key derived from a key of 32 bytes and a seed of 8, under the label of card keys; other lengths: 1.
 pub fn derive(key: &[u8], seed: &[u8]) -> KeyAnswer
-    ensures { λ r. ⌜ r ≡ derivation (now (key .entry)) (now (seed .entry)) ⌝ }
+    ensures { λ r. ⌜ r ≡ cardDerivation (now (key .entry)) (now (seed .entry)) ⌝ }
 {
-    if key.len() != 32 {
-        return KeyAnswer {
-            code: 1,
-            bytes: [0; 32],
-        };
-    }
     if seed.len() != 8 {
         return KeyAnswer {
             code: 1,
             bytes: [0; 32],
         };
     }
-    let bytes = derive_with(start(key_of(key)), CARD_LABEL, seed);
+    hmac(key, &string(card_label(), seed))
+}
+
+// A key, kept for many seeds: its first blocks and the round keys after them are paid for once.
+pub fn keep(key: [u8; 32]) -> [u64; KEPT_WORDS]
+    ensures { λ r. ⌜ r ≡ kept key ⌝ }
+{
+    let s = start(key);
+    let inner = s.inner;
+    let outer = s.outer;
+    let mut r = [0; KEPT_WORDS];
+    lay(&mut r, 0, &hash::keep(inner.core));
+    lay(&mut r, 128, &hash::keep(outer.core));
+    r
+}
+
+// The key derived from the words of a kept key, a label and a seed; another number of words: 1.
+pub fn derive_kept(kept: &[u64], label: [u8; 4], seed: [u8; 8]) -> KeyAnswer
+    ensures { λ r. ⌜ r ≡ derivationKept (now (kept .entry)) label seed ⌝ }
+{
+    if kept.len() != KEPT_WORDS {
+        return KeyAnswer {
+            code: 1,
+            bytes: [0; 32],
+        };
+    }
+    let x = hash::end_ahead(&kept[0..128], &string(label, &seed));
+    let bytes = hash::end_ahead(&kept[128..], &x);
     KeyAnswer { code: 0, bytes }
 }

@@ -3,7 +3,7 @@
 ghost use mathlib.Core.Path.{_≡_};
 ghost use lib.ListN.{length};
 ghost use Rattle.cipher.specs.Answers.{enciphered, deciphered, coded};
-ghost use Rattle.derive.specs.Answers.{derivation};
+ghost use Rattle.derive.specs.Answers.{cardDerivation};
 ghost use Rattle.keys.specs.Answers.{cardKey, cardKeyPacked, sessionKey, scriptKey, counterKey, idnAnswer};
 ghost use Rattle.cards.specs.Cards.{cardsNumber, cardsAfter};
 ghost use Rattle.pin.specs.Answers.{writePin, readPin};
@@ -65,7 +65,7 @@ pub extern "C" fn box_code(key: &[u8], string: &[u8], out: &mut [u8]) -> u8
 // The key derived from a key of 32 bytes and a seed of 8. 1: a length.
 #[no_mangle]
 pub extern "C" fn box_derive(key: &[u8], seed: &[u8], out: &mut [u8]) -> u8
-    ensures { λ r. ⌜ GivenKey (derivation (now (key .entry)) (now (seed .entry))) (now (out .entry)) r (now (out .exit)) ⌝ }
+    ensures { λ r. ⌜ GivenKey (cardDerivation (now (key .entry)) (now (seed .entry))) (now (out .entry)) r (now (out .exit)) ⌝ }
 {
     let r = derive::derive(key, seed);
     let bytes = r.bytes;

@@ -1,25 +1,28 @@
 -- A message ended by round keys that were kept is ended as by its core. Assumes nothing.
 use mathlib.Core.Path.{_≡_, refl, sym, ap, ap₂, _∙_}
 use mathlib.Core.Bool.{Bool, true, false}
-use mathlib.Core.List.{List, [], _++_}
-use Prim.Native.Nat.{ℕ, _*_, _/_, _<_, _≤_}
+use mathlib.Core.List.{List, [], _++_, append-assoc, append-nil}
+use Prim.Native.Nat.{ℕ, zero, suc, _+_, _-_, _*_, _/_, _<_, _≤_}
 use native.Mathlib.Omega.{arith}
-use borrow.Author.Tests.{ltb-true, lt-ltb, le-ltb}
-use lib.Dec.{ltb, lit<}
-use lib.ListN.{length, set, drop-of-length-le}
-use lib.Seq.{paste, take-length}
+use borrow.Author.Tests.{eq-eqb, ne-eqb, ltb-true, ltb-false, lt-ltb, le-ltb}
+use lib.Dec.{ltb, lit<, lit≤}
+use lib.ListN.{length, take, drop, set, replicate, length-append, length-drop, drop-of-length-le}
+use lib.Seq.{paste, take-length, take-all, drop-at}
 use Rattle.octets.proofs.Parts.{zeros}
-use Rattle.blocks.specs.Blocks.{absorbed, tail}
+use Rattle.blocks.specs.Blocks.{taken, absorbed, tail}
 use Rattle.blocks.proofs.Laws.{absorbed-end, tail-end}
 use Rattle.lps.specs.Vectors.{words}
 use Rattle.rounds.specs.Sums.{vec, _⊞_}
-use Rattle.rounds.proofs.KeyLaws.{g-by}
+use Rattle.rounds.specs.Lent.{vectorAt, laid}
+use Rattle.rounds.specs.Keys.{keysOf, gBy, gWith}
+use Rattle.rounds.proofs.SumLaws.{length-vec, length-sum}
+use Rattle.rounds.proofs.LentLaws.{vector-in, laid-zeros}
+use Rattle.rounds.proofs.KeyLaws.{length-keys, g-by, with-all}
 use Rattle.hash.specs.declared.Core.{Core}
-use Rattle.hash.specs.declared.Ahead.{Ahead}
 use Rattle.hash.specs.Hash.{start, step, advanced, padded, closed, finished}
 use Rattle.hash.specs.States.{filled, stateOf, held, begun, fed, ended}
-use Rattle.hash.specs.Ahead.{aheadOf, advancedBy, endedAhead}
-use Rattle.hash.proofs.Laws.{held-stateOf, core-stateOf}
+use Rattle.hash.specs.Ahead.{aheadOf, coreIn, advancedBy, endedAhead}
+use Rattle.hash.proofs.Laws.{held-stateOf, core-stateOf, length-g}
 use Rattle.hash.proofs.BlockLaws.{put-empty, padded-filled}
 
 -- the last block as the code makes it
@@ -28,18 +31,84 @@ padded-put m h =
     ap (λ (b : List ℕ). set b (length m) 1) (put-empty m (length m) (omega arith) (omega arith) ∙ ap filled (take-length m))
     ∙ padded-filled m (length m) refl h
 
-module _ (a : Ahead) (m : List ℕ) where
+pub ended-not : (a m : List ℕ) → (length a ≡ 128 → ⊥) → replicate 32 0 ≡ endedAhead a m
+unfolding endedAhead
+ended-not a m e = simp (ne-eqb _ _ e)
+
+module _ (a m : List ℕ) (e : length a ≡ 128) where
   pub ended-short : length m < 64 → closed (advancedBy a (8 * length m) (words (padded m))) ≡ endedAhead a m
   unfolding endedAhead
-  ended-short h = simp (lt-ltb _ _ h)
+  ended-short h = simp (eq-eqb _ _ e, lt-ltb _ _ h)
 
-  pub ended-long : 64 ≤ length m → ended (fed (stateOf (a .core) []) m) ≡ endedAhead a m
+  pub ended-long : 64 ≤ length m → ended (fed (stateOf (coreIn a) []) m) ≡ endedAhead a m
   unfolding endedAhead
-  ended-long h = simp (le-ltb _ _ h)
+  ended-long h = simp (eq-eqb _ _ e, le-ltb _ _ h)
 
-advanced-by : (c : Core) (n : ℕ) (m : List ℕ) → advancedBy (aheadOf c) n m ≡ advanced c n m
-unfolding advancedBy aheadOf advanced
-advanced-by c n m = λ k. record { h = g-by (c .n) (c .h) m k; n = c .n ⊞ vec n; sigma = c .sigma ⊞ m }
+-- the words of a core whose vectors have eight
+abbrev pub Eights : Core → Type 0
+Eights c = (length (c .h) ≡ 8) × (length (c .n) ≡ 8) × (length (c .sigma) ≡ 8)
+
+module _ (c : Core) (e : Eights c) where
+  pub length-ahead : length (aheadOf c) ≡ 128
+  unfolding aheadOf
+  length-ahead =
+      length-append (c .h) (c .n ++ (c .sigma ++ keysOf (c .n) (c .h)))
+      ∙ ap₂ (λ (i j : ℕ). i + j) (e .0)
+      (length-append (c .n) (c .sigma ++ keysOf (c .n) (c .h))
+      ∙ ap₂ (λ (i j : ℕ). i + j) (e .1)
+      (length-append (c .sigma) (keysOf (c .n) (c .h)) ∙ ap₂ (λ (i j : ℕ). i + j) (e .2) (length-keys (c .n) (c .h))))
+
+  front : length (c .h ++ c .n) ≡ 16
+  front = length-append (c .h) (c .n) ∙ ap₂ (λ (i j : ℕ). i + j) (e .0) (e .1)
+
+  core-in : coreIn (aheadOf c) ≡ c
+  unfolding coreIn aheadOf
+  core-in =
+      let ks : List ℕ = keysOf (c .n) (c .h) in
+      let h = vector-in [] (c .h) (c .n ++ (c .sigma ++ ks)) 0 refl (e .0) in
+      let n = vector-in (c .h) (c .n) (c .sigma ++ ks) 8 (e .0) (e .1) in
+      let s =
+      ap (λ (x : List ℕ). vectorAt x 16) (sym (append-assoc (c .h) (c .n) (c .sigma ++ ks)))
+      ∙ vector-in (c .h ++ c .n) (c .sigma) ks 16 front (e .2) in
+      λ k. record { h = h k; n = n k; sigma = s k }
+
+  keys-in : drop 24 (aheadOf c) ≡ keysOf (c .n) (c .h)
+  unfolding aheadOf
+  keys-in =
+      let ks : List ℕ = keysOf (c .n) (c .h) in
+      let m : length ((c .h ++ c .n) ++ c .sigma) ≡ 24 = length-append (c .h ++ c .n) (c .sigma) ∙ ap₂ (λ (i j : ℕ). i + j) front (e .2) in
+      ap (drop 24) (sym (append-assoc (c .h ++ c .n) (c .sigma) ks ∙ append-assoc (c .h) (c .n) (c .sigma ++ ks)))
+      ∙ drop-at ((c .h ++ c .n) ++ c .sigma) ks 24 m
+
+  advanced-by : (n : ℕ) (m : List ℕ) → advancedBy (aheadOf c) n m ≡ advanced c n m
+  unfolding advancedBy advanced
+  advanced-by n m =
+      let h = ap₂ (λ (ks : List ℕ) (d : Core). gBy ks (d .h) m) keys-in core-in ∙ g-by (c .n) (c .h) m in
+      λ k. record { h = h k; n = core-in k .n ⊞ vec n; sigma = core-in k .sigma ⊞ m }
+
+  -- as the code writes them
+  pub ahead-laid : (ks w x y z : List ℕ) → ks ≡ keysOf (c .n) (c .h) → w ≡ laid (zeros 128) 0 (c .h) → x ≡ laid w 8 (c .n) → y ≡ laid x 16 (c .sigma)
+      → z ≡ laid y 24 ks → z ≡ aheadOf c
+  unfolding aheadOf
+  ahead-laid ks w x y z k ew ex ey ez =
+      let r : List ℕ = keysOf (c .n) (c .h) in
+      let f : length (c .h ++ c .n ++ c .sigma) ≡ 24 = length-append (c .h ++ c .n) (c .sigma) ∙ ap₂ (λ (i j : ℕ). i + j) front (e .2) in
+      let one : w ≡ c .h ++ zeros 120 = ew ∙ laid-zeros [] (c .h) 0 8 128 refl (e .0) (lit≤ tt) in
+      let two : x ≡ c .h ++ c .n ++ zeros 112 = ex ∙ ap (λ (b : List ℕ). laid b 8 (c .n)) one ∙ laid-zeros (c .h) (c .n) 8 8 120 (e .0) (e .1) (lit≤ tt) in
+      let three : y ≡ c .h ++ c .n ++ c .sigma ++ zeros 104 =
+      ey ∙ ap (λ (b : List ℕ). laid b 16 (c .sigma)) two ∙ laid-zeros (c .h ++ c .n) (c .sigma) 16 8 112 front (e .2) (lit≤ tt) in
+      ez
+      ∙ ap₂ (λ (b v : List ℕ). laid b 24 v) three k
+      ∙ laid-zeros (c .h ++ c .n ++ c .sigma) r 24 104 104 f (length-keys (c .n) (c .h)) (lit≤ tt)
+      ∙ append-nil (c .h ++ c .n ++ c .sigma ++ r)
+      ∙ append-assoc (c .h ++ c .n) (c .sigma) r
+      ∙ append-assoc (c .h) (c .n) (c .sigma ++ r)
+
+-- the round keys as the code lends them
+pub keys-lent : (a h m : List ℕ) → length a ≡ 128 → gWith (take (length a - 24) (drop 24 a)) h m ≡ gBy (drop 24 a) h m
+keys-lent a h m e =
+    let n : length (drop 24 a) ≡ 104 = length-drop 24 a ∙ omega arith in
+    ap (λ (ks : List ℕ). gWith ks h m) (take-all (length a - 24) (drop 24 a) (omega arith)) ∙ sym (with-all (drop 24 a) h m n)
 
 -- less than a block after a core
 finished-core : (c : Core) (m : List ℕ) → length m < 64 → ended (fed (stateOf c []) m) ≡ finished c m
@@ -52,24 +121,39 @@ finished-core c m h =
     ∙ ap₂ finished (core-stateOf (absorbed 64 step c m) (tail 64 m) ∙ absorbed-end 64 (lit< tt) step c m h)
     (ap (λ (t : List ℕ). held (stateOf (absorbed 64 step c m) t)) (tail-end 64 (lit< tt) m h) ∙ held-stateOf (absorbed 64 step c m) m h)
 
-core-of : (c : Core) → aheadOf c .core ≡ c
-unfolding aheadOf
-core-of c = refl
+module _ (c : Core) (e : Eights c) (m : List ℕ) where
+  short : length m < 64 → endedAhead (aheadOf c) m ≡ ended (fed (stateOf c []) m)
+  unfolding finished
+  short h =
+      sym (ended-short (aheadOf c) m (length-ahead c e) h)
+      ∙ ap closed (advanced-by c e (8 * length m) (words (padded m)))
+      ∙ sym (finished-core c m h)
 
-short : (c : Core) (m : List ℕ) → length m < 64 → endedAhead (aheadOf c) m ≡ ended (fed (stateOf c []) m)
-unfolding finished
-short c m h =
-    sym (ended-short (aheadOf c) m h)
-    ∙ ap closed (advanced-by c (8 * length m) (words (padded m)))
-    ∙ sym (finished-core c m h)
+  pub ended-ahead : endedAhead (aheadOf c) m ≡ ended (fed (stateOf c []) m)
+  ended-ahead = go (ltb (length m) 64) refl
+    where
+      go : (b : Bool) → ltb (length m) 64 ≡ b → endedAhead (aheadOf c) m ≡ ended (fed (stateOf c []) m)
+      go true t = short (ltb-true _ _ t)
+      go false t =
+          sym (ended-long (aheadOf c) m (length-ahead c e) (ltb-false _ _ t)) ∙ ap (λ (d : Core). ended (fed (stateOf d []) m)) (core-in c e)
 
-pub ended-ahead : (c : Core) (m : List ℕ) → endedAhead (aheadOf c) m ≡ ended (fed (stateOf c []) m)
-unfolding endedAhead
-ended-ahead c m = go (ltb (length m) 64) refl
-  where
-    go : (b : Bool) → ltb (length m) 64 ≡ b → endedAhead (aheadOf c) m ≡ ended (fed (stateOf c []) m)
-    go true e = short c m (ltb-true _ _ e)
-    go false e = simp (e, core-of c)
+-- the vectors of a hash under way have eight words
+eights-step : (c : Core) (b : List ℕ) → Eights (step c b)
+unfolding step advanced
+eights-step c b = (length-g (c .n) (c .h) (words b), length-sum (c .n) (vec 512), length-sum (c .sigma) (words b))
+
+eights-taken : (n : ℕ) (c : Core) (m : List ℕ) → Eights c → Eights (taken 64 step n c m)
+unfolding taken
+eights-taken zero c m e = e
+eights-taken (suc n) c m e = eights-taken n (step c (take 64 m)) (drop 64 m) (eights-step c (take 64 m))
+
+eights-start : Eights start
+unfolding start words
+eights-start = (refl, length-vec 0, length-vec 0)
+
+pub eights-fed : (m : List ℕ) → Eights (fed begun m .core)
+unfolding fed begun absorbed stateOf
+eights-fed m = eights-taken (length (held begun ++ m) / 64) start (held begun ++ m) eights-start
 
 -- a whole block leaves nothing held
 pub fed-block : (b : List ℕ) → length b ≡ 64 → stateOf (fed begun b .core) [] ≡ fed begun b

@@ -51,7 +51,7 @@ ended-fed m =
     ∙ ap₂ (λ (c : Core) (t : List ℕ). finished (absorbed 64 step c (t ++ m)) (tail 64 (t ++ m)))
     (core-stateOf start []) (held-stateOf start [] (lit< tt))
 
-length-g : (n h m : List ℕ) → length (g n h m) ≡ 8
+pub length-g : (n h m : List ℕ) → length (g n h m) ≡ 8
 unfolding g gOver X
 length-g n h m = refl
 

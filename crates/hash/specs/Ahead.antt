@@ -1,24 +1,32 @@
--- A core with the round keys of its next block, so that many messages that follow the same blocks pay for those keys once. Assumes nothing.
+-- A core with the round keys of its next block, so that many messages that follow the same blocks pay for those keys once. They are kept as 128 words:
+-- h, N and Sigma, and the 13 round keys, each of eight words. Assumes nothing.
 use mathlib.Core.Bool.{cond}
-use mathlib.Core.List.{List, []}
+use mathlib.Core.List.{List, [], _++_}
 use Prim.Native.Nat.{ℕ, _*_}
-use lib.Dec.{ltb}
-use lib.ListN.{length}
+use lib.Dec.{eqb, ltb}
+use lib.ListN.{length, drop, replicate}
 use Rattle.lps.specs.Vectors.{words}
 use Rattle.rounds.specs.Sums.{vec, _⊞_}
+use Rattle.rounds.specs.Lent.{vectorAt}
 use Rattle.rounds.specs.Keys.{keysOf, gBy}
 use Rattle.hash.specs.Hash.{padded, closed}
 use Rattle.hash.specs.States.{stateOf, fed, ended}
 use Rattle.hash.specs.declared.Core.{Core}
-use Rattle.hash.specs.declared.Ahead.{Ahead}
 
-unfoldable pub aheadOf : Core → Ahead
-aheadOf c = record { core = c; keys = keysOf (c .n) (c .h) }
+unfoldable pub aheadOf : Core → List ℕ
+aheadOf c = c .h ++ (c .n ++ (c .sigma ++ keysOf (c .n) (c .h)))
+
+-- the core that the words begin with
+unfoldable pub coreIn : List ℕ → Core
+coreIn a = record { h = vectorAt a 0; n = vectorAt a 8; sigma = vectorAt a 16 }
 
 -- a block m, of which n bits are of the message, by the round keys
-unfoldable pub advancedBy : Ahead → ℕ → List ℕ → Core
-advancedBy a n m = record { h = gBy (a .keys) (a .core .h) m; n = a .core .n ⊞ vec n; sigma = a .core .sigma ⊞ m }
+unfoldable pub advancedBy : List ℕ → ℕ → List ℕ → Core
+advancedBy a n m = record { h = gBy (drop 24 a) (coreIn a .h) m; n = coreIn a .n ⊞ vec n; sigma = coreIn a .sigma ⊞ m }
 
--- the hash that m ends: less than a block by the round keys, else by the core alone
-unfoldable pub endedAhead : Ahead → List ℕ → List ℕ
-endedAhead a m = cond (ltb (length m) 64) (closed (advancedBy a (8 * length m) (words (padded m)))) (ended (fed (stateOf (a .core) []) m))
+-- the hash that m ends: less than a block by the round keys, else by the core alone; zeros where the words are not 128
+unfoldable pub endedAhead : List ℕ → List ℕ → List ℕ
+endedAhead a m =
+    cond (eqb (length a) 128)
+    (cond (ltb (length m) 64) (closed (advancedBy a (8 * length m) (words (padded m)))) (ended (fed (stateOf (coreIn a) []) m)))
+    (replicate 32 0)

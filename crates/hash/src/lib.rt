@@ -10,26 +10,22 @@ ghost use Rattle.lps.specs.Vectors.{words, bytes};
 ghost use Rattle.rounds.specs.Rounds.{constants};
 ghost use Rattle.hash.specs.Hash.{advanced, step, padded as paddedTo, closed as closedOf, hash256};
 ghost use Rattle.hash.specs.States.{begun, fed, ended};
-ghost use Rattle.hash.specs.Ahead.{aheadOf, advancedBy, endedAhead};
+ghost use Rattle.hash.specs.Ahead.{aheadOf, coreIn, advancedBy, endedAhead};
 use octets::octet;
 use rounds::add;
 use rounds::compress_block;
 use rounds::compress_over;
 use rounds::compress_with;
 use rounds::iteration_constants;
+use rounds::lay;
 use rounds::round_keys;
+use rounds::vector;
 
 // What the whole blocks so far have made: h, and the numbers N and Sigma.
 pub struct Core {
     pub h: [u64; 8],
     pub n: [u64; 8],
     pub sigma: [u64; 8],
-}
-
-// What the whole blocks so far have made, and the round keys of the next block.
-pub struct Ahead {
-    pub core: Core,
-    pub keys: [u64; 104],
 }
 
 // A hash under way: the first fill bytes of the buffer are not yet a block.
@@ -251,26 +247,42 @@ pub fn hash(m: &[u8]) -> [u8; 32]
     end(feed(begin(), m))
 }
 
-// The round keys of a core's next block, for many blocks.
-pub fn keep(c: Core) -> Ahead
+// A core and the round keys of its next block, as 128 words, for many messages.
+pub fn keep(c: Core) -> [u64; 128]
     ensures { λ r. ⌜ r ≡ aheadOf c ⌝ }
 {
-    let n = c.n;
     let h = c.h;
+    let n = c.n;
+    let sigma = c.sigma;
     let keys = round_keys(n, h);
-    Ahead { core: c, keys }
+    let mut r = [0; 128];
+    lay(&mut r, 0, &h);
+    lay(&mut r, 8, &n);
+    lay(&mut r, 16, &sigma);
+    lay(&mut r, 24, &keys);
+    r
+}
+
+// The core that kept words begin with.
+fn core_in(a: &[u64]) -> Core
+    ensures { λ r. ⌜ r ≡ coreIn (now (a .entry)) ⌝ }
+{
+    let h = vector(a, 0);
+    let n = vector(a, 8);
+    let sigma = vector(a, 16);
+    Core { h, n, sigma }
 }
 
 // A block m, of which so many bits are of the message, by the round keys kept.
-fn advance_with(a: Ahead, bits: u64, m: [u64; 8]) -> Core
-    ensures { λ r. ⌜ r ≡ advancedBy a bits m ⌝ }
+fn advance_with(a: &[u64], bits: u64, m: [u64; 8]) -> Core
+    requires { ⌜ length (now a) ≡ 128 ⌝ }
+    ensures { λ r. ⌜ r ≡ advancedBy (now (a .entry)) bits m ⌝ }
 {
-    let core = a.core;
-    let keys = a.keys;
+    let core = core_in(a);
     let h = core.h;
     let n = core.n;
     let sigma = core.sigma;
-    let h2 = compress_with(keys, h, m);
+    let h2 = compress_with(&a[24..], h, m);
     let n2 = add(n, [bits, 0, 0, 0, 0, 0, 0, 0]);
     let s2 = add(sigma, m);
     Core {
@@ -280,14 +292,16 @@ fn advance_with(a: Ahead, bits: u64, m: [u64; 8]) -> Core
     }
 }
 
-// The hash that m ends. The round keys serve a message of less than a block.
-pub fn end_ahead(a: Ahead, m: &[u8]) -> [u8; 32]
-    ensures { λ r. ⌜ r ≡ endedAhead a (now (m .entry)) ⌝ }
+// The hash that m ends, by kept words; 32 zeros where they are not 128. The round keys serve a message of less than a block.
+pub fn end_ahead(a: &[u64], m: &[u8]) -> [u8; 32]
+    ensures { λ r. ⌜ r ≡ endedAhead (now (a .entry)) (now (m .entry)) ⌝ }
 {
+    if a.len() != 128 {
+        return [0; 32];
+    }
     if 64 <= m.len() {
-        let core = a.core;
         let s = State {
-            core: core,
+            core: core_in(a),
             buffer: [0; 64],
             fill: 0,
         };

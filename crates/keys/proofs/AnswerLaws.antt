@@ -1,6 +1,6 @@
 -- What the entry points answer, test by test. Assumes nothing.
 use mathlib.Core.Path.{_≡_, refl, sym, ap, _∙_}
-use mathlib.Core.Bool.{Bool, true, false, not, and-false}
+use mathlib.Core.Bool.{Bool, true, false, not, cond, and-false}
 use mathlib.Core.List.{List, _++_}
 use Prim.Native.Nat.{ℕ, _-_, _<_, _≤_}
 use borrow.Author.Tests.{eq-eqb, ne-eqb, le-leb, lt-leb, not-true, not-false}
@@ -12,12 +12,15 @@ use Rattle.answers.specs.declared.BlockAnswer.{BlockAnswer}
 use Rattle.cipher.specs.Answers.{enciphered}
 use Rattle.cipher.proofs.AnswerLaws.{fits as block-fits}
 use Rattle.hash.specs.Hash.{hash256}
-use Rattle.derive.specs.Answers.{noKey, yes, derivation}
-use Rattle.derive.proofs.Laws.{fits}
+use Rattle.derive.specs.declared.KeyAnswer.{KeyAnswer}
+use Rattle.derive.specs.Derivation.{cardLabel}
+use Rattle.derive.specs.Kept.{kept}
+use Rattle.derive.specs.Answers.{seedFits, noKey, yes, cardDerivation, derivationKept}
+use Rattle.derive.proofs.Laws.{fits, card-seed, derivation-kept}
 use Rattle.keys.specs.declared.SeedAnswer.{SeedAnswer}
 use Rattle.keys.specs.CardNumber.{cardFits, Y}
-use Rattle.keys.specs.Seeds.{idnBlock}
-use Rattle.keys.specs.Answers.{cardAnswer, seedAnswer, counterKey, idn, noIdn, idnAnswer}
+use Rattle.keys.specs.Seeds.{sessionSeed, idnBlock}
+use Rattle.keys.specs.Answers.{cardAnswer, seedAnswer, sessionKey, scriptKey, sessionKeyKept, scriptKeyKept, counterKey, idn, noIdn, idnAnswer}
 
 module _ (key pan : List ℕ) (q : ℕ) (y : List ℕ) where
   pub card-no-key : (length key ≡ 32 → ⊥) → noKey 1 ≡ cardAnswer key pan q y
@@ -28,9 +31,9 @@ module _ (key pan : List ℕ) (q : ℕ) (y : List ℕ) where
   unfolding cardAnswer keyFits
   card-no-card h t e n = simp (eq-eqb _ _ h, sym e ∙ not-true t n)
 
-  pub card-yes : length key ≡ 32 → (t : Bool) → t ≡ cardFits pan q → not t ≡ false → length y ≡ 8 → derivation key y ≡ cardAnswer key pan q y
+  pub card-yes : length key ≡ 32 → (t : Bool) → t ≡ cardFits pan q → not t ≡ false → length y ≡ 8 → cardDerivation key y ≡ cardAnswer key pan q y
   unfolding cardAnswer keyFits
-  card-yes h t e n l = sym (fits key y h l) ∙ sym (simp (eq-eqb _ _ h, sym e ∙ not-false t n))
+  card-yes h t e n l = sym (fits key cardLabel y h ∙ card-seed key y l) ∙ sym (simp (eq-eqb _ _ h, sym e ∙ not-false t n))
 
 module _ (pan : List ℕ) (q : ℕ) (t : Bool) (e : t ≡ cardFits pan q) where
   pub seed-no : not t ≡ true → _≡_ {A = SeedAnswer} (record { code = 2; bytes = replicate 8 0 }) (seedAnswer pan q)
@@ -40,6 +43,25 @@ module _ (pan : List ℕ) (q : ℕ) (t : Bool) (e : t ≡ cardFits pan q) where
   pub seed-yes : not t ≡ false → (y : List ℕ) → y ≡ Y pan q → _≡_ {A = SeedAnswer} (record { code = 0; bytes = y }) (seedAnswer pan q)
   unfolding seedAnswer
   seed-yes n y f = ap {B = SeedAnswer} (λ (x : List ℕ). record { code = 0; bytes = x }) f ∙ sym (simp (sym e ∙ not-false t n))
+
+-- a session key under the kept master key is the session key
+module _ (key : List ℕ) where
+  pub session-kept : (atc : ℕ) → length key ≡ 32 → sessionKeyKept (kept key) atc ≡ sessionKey key atc
+  unfolding sessionKeyKept sessionKey sessionSeed beOctets leOctets
+  session-kept atc h = derivation-kept key cardLabel (sessionSeed atc) h ∙ card-seed key (sessionSeed atc) refl
+
+  pub script-kept : (cryptogram : List ℕ) → length key ≡ 32 → scriptKeyKept (kept key) cryptogram ≡ scriptKey key cryptogram
+  unfolding scriptKeyKept scriptKey cardDerivation
+  script-kept cryptogram h = ap (λ (x : KeyAnswer). cond (seedFits cryptogram) x (noKey 1)) (derivation-kept key cardLabel cryptogram h)
+
+module _ (ws cryptogram : List ℕ) where
+  pub script-no-seed : (length cryptogram ≡ 8 → ⊥) → noKey 1 ≡ scriptKeyKept ws cryptogram
+  unfolding scriptKeyKept seedFits
+  script-no-seed h = simp (ne-eqb _ _ h)
+
+  pub script-seed : length cryptogram ≡ 8 → derivationKept ws cardLabel cryptogram ≡ scriptKeyKept ws cryptogram
+  unfolding scriptKeyKept seedFits
+  script-seed h = simp (eq-eqb _ _ h)
 
 pub counter-no-key : (key : List ℕ) → (length key ≡ 32 → ⊥) → noKey 1 ≡ counterKey key
 unfolding counterKey keyFits

@@ -9,7 +9,7 @@ use Rattle.gost.specs.Gost.{encipher}
 use Rattle.hash.specs.Hash.{hash256}
 use Rattle.derive.specs.declared.KeyAnswer.{KeyAnswer}
 use Rattle.derive.specs.Derivation.{derived, cardLabel}
-use Rattle.derive.specs.Answers.{noKey, yes, derivation}
+use Rattle.derive.specs.Answers.{seedFits, noKey, yes, cardDerivation, derivationKept}
 use Rattle.keys.specs.declared.IdnAnswer.{IdnAnswer}
 use Rattle.keys.specs.declared.SeedAnswer.{SeedAnswer}
 use Rattle.keys.specs.CardNumber.{cardFits, Y, packedY}
@@ -32,11 +32,18 @@ seedAnswer pan sequence = cond (cardFits pan sequence) (record { code = 0; bytes
 
 -- 003, 4.2.1: for cryptograms, from the transaction counter
 unfoldable pub sessionKey : List ℕ → ℕ → KeyAnswer
-sessionKey key atc = derivation key (sessionSeed atc)
+sessionKey key atc = cardDerivation key (sessionSeed atc)
 
 -- 003, 4.2.2 and 4.2.3: for scripts, from the cryptogram
 unfoldable pub scriptKey : List ℕ → List ℕ → KeyAnswer
-scriptKey key cryptogram = derivation key cryptogram
+scriptKey key cryptogram = cardDerivation key cryptogram
+
+-- both under the words of a kept master key; 1 where they are not 256
+unfoldable pub sessionKeyKept : List ℕ → ℕ → KeyAnswer
+sessionKeyKept ws atc = derivationKept ws cardLabel (sessionSeed atc)
+
+unfoldable pub scriptKeyKept : List ℕ → List ℕ → KeyAnswer
+scriptKeyKept ws cryptogram = cond (seedFits cryptogram) (derivationKept ws cardLabel cryptogram) (noKey 1)
 
 -- 002, 4.3.1: the hash of the session key for cryptograms
 unfoldable pub counterKey : List ℕ → KeyAnswer

@@ -7,7 +7,9 @@ ghost use lib.ListN.{length, getD, take, replicate};
 ghost use Rattle.octets.specs.Digits.{digits};
 ghost use Rattle.octets.specs.Digits.{pairs};
 ghost use Rattle.keys.specs.CardNumber.{cardFits, X, sixteen as lastSixteen};
-ghost use Rattle.keys.specs.Answers.{cardAnswer, cardKey, cardKeyPacked, seedAnswer, sessionKey, scriptKey, counterKey, idnAnswer};
+ghost use Rattle.keys.specs.Seeds.{sessionSeed};
+ghost use Rattle.keys.specs.Answers.{cardAnswer, cardKey, cardKeyPacked, seedAnswer, counterKey, idnAnswer};
+ghost use Rattle.keys.specs.Answers.{sessionKey, scriptKey, sessionKeyKept, scriptKeyKept};
 use derive::KeyAnswer;
 
 // An IDN in the first places, zeros in the others; or a refusal's number and zeros.
@@ -140,12 +142,19 @@ pub fn card_seed(pan: &[u8], sequence: u8) -> SeedAnswer
     SeedAnswer { code: 0, bytes }
 }
 
+// The seed of a session key for cryptograms: the counter, f0, five 00.
+fn session_seed(counter: u16) -> [u8; 8]
+    ensures { λ r. ⌜ r ≡ sessionSeed counter ⌝ }
+{
+    let c = octets::high_first(counter);
+    [c[0], c[1], 0xf0, 0, 0, 0, 0, 0]
+}
+
 // The session key for cryptograms, from the master key and the transaction counter.
 pub fn session_key(master: &[u8], counter: u16) -> KeyAnswer
     ensures { λ r. ⌜ r ≡ sessionKey (now (master .entry)) counter ⌝ }
 {
-    let c = octets::high_first(counter);
-    derive::derive(master, &[c[0], c[1], 0xf0, 0, 0, 0, 0, 0])
+    derive::derive(master, &session_seed(counter))
 }
 
 // The session key for scripts, from the master key (SMI or SMC) and the cryptogram of 8 bytes.
@@ -153,6 +162,36 @@ pub fn script_key(master: &[u8], cryptogram: &[u8]) -> KeyAnswer
     ensures { λ r. ⌜ r ≡ scriptKey (now (master .entry)) (now (cryptogram .entry)) ⌝ }
 {
     derive::derive(master, cryptogram)
+}
+
+// The session key for cryptograms, from the words of a kept master key; another number of words: 1.
+pub fn session_key_kept(kept: &[u64], counter: u16) -> KeyAnswer
+    ensures { λ r. ⌜ r ≡ sessionKeyKept (now (kept .entry)) counter ⌝ }
+{
+    derive::derive_kept(kept, derive::card_label(), session_seed(counter))
+}
+
+// The session key for scripts, from the words of a kept master key; another number of words, or a cryptogram not of 8 bytes: 1.
+pub fn script_key_kept(kept: &[u64], cryptogram: &[u8]) -> KeyAnswer
+    ensures { λ r. ⌜ r ≡ scriptKeyKept (now (kept .entry)) (now (cryptogram .entry)) ⌝ }
+{
+    if cryptogram.len() != 8 {
+        return KeyAnswer {
+            code: 1,
+            bytes: [0; 32],
+        };
+    }
+    let seed = [
+        cryptogram[0],
+        cryptogram[1],
+        cryptogram[2],
+        cryptogram[3],
+        cryptogram[4],
+        cryptogram[5],
+        cryptogram[6],
+        cryptogram[7],
+    ];
+    derive::derive_kept(kept, derive::card_label(), seed)
 }
 
 // The key for counter blocks, from the session key for cryptograms.

@@ -1,18 +1,19 @@
 -- g by its round keys is g, and the keys are what the rounds over the constants give. Assumes nothing.
-use mathlib.Core.Path.{_≡_, refl, sym, ap, ap₂, _∙_, subst}
+use mathlib.Core.Path.{_≡_, refl, sym, ap, ap₂, _∙_}
 use mathlib.Core.List.{List, [], _∷_, _++_, append-assoc, append-nil}
 use Prim.Native.Nat.{ℕ, suc, _+_, _-_, _*_, _<_, _≤_}
 use native.Mathlib.Numerals.{add-one}
 use native.Mathlib.Omega.{arith}
+use borrow.Author.Tests.{eq-eqb, ne-eqb}
 use lib.Bits.{bitXor, xor-comm}
-use lib.ListN.{length, getD, take, drop, drop-of-length-le, List·getD-append}
-use lib.Seq.{paste, take-paste, drop-paste, length-paste, drop-cons, drop-drop, drop-append-seam, take-all, getD-drop}
+use lib.ListN.{length, getD, take, drop, replicate, length-append, drop-of-length-le, List·getD-append}
+use lib.Seq.{paste, take-paste, drop-paste, length-paste, drop-cons, drop-drop, drop-at, take-all}
 use Rattle.lps.specs.Vectors.{each, X, LPS}
-use Rattle.lps.proofs.Each.{each-equal, each-at}
+use Rattle.lps.proofs.Each.{each-equal}
 use Rattle.lps.proofs.Words.{length-LPS}
 use Rattle.rounds.specs.Constants.{C}
 use Rattle.rounds.specs.Rounds.{constants, E, gOver, g}
-use Rattle.rounds.specs.Keys.{schedule, keysOf, through, gBy}
+use Rattle.rounds.specs.Keys.{schedule, keysOf, through, gBy, gWith}
 
 count : length constants ≡ 12
 unfolding constants C
@@ -27,14 +28,6 @@ X-front : (k s m : List ℕ) → length k ≡ 8 → X (k ++ s) m ≡ X k m
 unfolding X
 X-front k s m e = each-equal (λ i h. ap (λ (x : ℕ). bitXor x (getD m i 0)) (List·getD-append k s 0 i (omega arith)))
 
--- the vector from word p on
-pub X-at : (ks m : List ℕ) (p : ℕ) → X (each (λ j. getD ks (p + j) 0)) m ≡ X (drop p ks) m
-unfolding X
-X-at ks m p = each-equal (λ i h. ap (λ (x : ℕ). bitXor x (getD m i 0)) (each-at (λ j. getD ks (p + j) 0) i h ∙ sym (getD-drop p ks i 0)))
-
-drop-front : (k s : List ℕ) → length k ≡ 8 → drop 8 (k ++ s) ≡ s
-drop-front k s e = subst (λ (n : ℕ). drop n (k ++ s) ≡ s) e (drop-append-seam k s)
-
 -- E by the schedule of its key
 rounds-through : (cs : List (List ℕ)) (k m : List ℕ) → length k ≡ 8
     → E cs k m ≡ X (drop (8 * length cs) (schedule cs k)) (through (length cs) (schedule cs k) m)
@@ -47,8 +40,8 @@ rounds-through (c ∷ cs) k m e =
     rounds-through cs next (LPS (X k m)) (length-LPS (X k c))
     ∙ sym
     (ap₂ (λ (x y : List ℕ). X x (through (length cs) y (LPS (X (k ++ s) m))))
-    (ap (λ (n : ℕ). drop n (k ++ s)) (sym d) ∙ sym (drop-drop (8 * length cs) 8 (k ++ s)) ∙ ap (drop (8 * length cs)) (drop-front k s e))
-    (drop-front k s e)
+    (ap (λ (n : ℕ). drop n (k ++ s)) (sym d) ∙ sym (drop-drop (8 * length cs) 8 (k ++ s)) ∙ ap (drop (8 * length cs)) (drop-at k s 8 e))
+    (drop-at k s 8 e)
     ∙ ap (λ (x : List ℕ). X (drop (8 * length cs) s) (through (length cs) s (LPS x))) (X-front k s m e))
 
 pub g-by : (n h m : List ℕ) → gBy (keysOf n h) h m ≡ g n h m
@@ -57,6 +50,28 @@ g-by n h m =
     ap (λ (x : List ℕ). X (X x h) m)
     (ap (λ (i : ℕ). X (drop (8 * i) (schedule constants (LPS (X h n)))) (through i (schedule constants (LPS (X h n))) m)) (sym count)
     ∙ sym (rounds-through constants (LPS (X h n)) m (length-LPS (X h n))))
+
+-- 13 keys of eight words
+length-schedule : (cs : List (List ℕ)) (k : List ℕ) → length k ≡ 8 → length (schedule cs k) ≡ 8 + 8 * length cs
+unfolding schedule
+length-schedule [] k e = e
+length-schedule (c ∷ cs) k e =
+    let r : length (schedule cs (LPS (X k c))) ≡ 8 + 8 * length cs = length-schedule cs (LPS (X k c)) (length-LPS (X k c)) in
+    length-append k (schedule cs (LPS (X k c))) ∙ omega arith
+
+pub length-keys : (n h : List ℕ) → length (keysOf n h) ≡ 104
+unfolding keysOf
+length-keys n h = length-schedule constants (LPS (X h n)) (length-LPS (X h n)) ∙ ap (λ (k : ℕ). 8 + 8 * k) count
+
+-- by any words
+module _ (ks h m : List ℕ) where
+  pub with-all : length ks ≡ 104 → gBy ks h m ≡ gWith ks h m
+  unfolding gWith
+  with-all e = simp (eq-eqb _ _ e)
+
+  pub with-not : (length ks ≡ 104 → ⊥) → replicate 8 0 ≡ gWith ks h m
+  unfolding gWith
+  with-not e = simp (ne-eqb _ _ e)
 
 -- a vector put in, and what stands before and after it
 module _ (b v : List ℕ) (p : ℕ) (n : length b ≡ 104) (e : length v ≡ 8) (h : p + 8 ≤ 104) where

@@ -1,3 +1,4 @@
 pub mod SumLaws
+pub mod LentLaws
 pub mod KeyLaws
 pub mod First

@@ -1,7 +1,9 @@
 -- E by its round keys (RFC 6986, section 8), so that keys that are known are not computed again. Assumes nothing.
+use mathlib.Core.Bool.{cond}
 use mathlib.Core.List.{List, [], _∷_, _++_}
 use Prim.Native.Nat.{ℕ, zero, suc}
-use lib.ListN.{drop, replicate}
+use lib.Dec.{eqb}
+use lib.ListN.{length, drop, replicate}
 use Rattle.lps.specs.Vectors.{X, LPS}
 use Rattle.rounds.specs.Rounds.{constants}
 
@@ -26,3 +28,7 @@ through (suc n) ks s = through n (drop 8 ks) (LPS (X ks s))
 -- g_N(h, m) by its round keys
 unfoldable pub gBy : List ℕ → List ℕ → List ℕ → List ℕ
 gBy ks h m = X (X (X (drop 96 ks) (through 12 ks m)) h) m
+
+-- the same for any words: zeros where they are not 104
+unfoldable pub gWith : List ℕ → List ℕ → List ℕ → List ℕ
+gWith ks h m = cond (eqb (length ks) 104) (gBy ks h m) (replicate 8 0)

@@ -1,13 +1,12 @@
 // The round functions of GOST R 34.11-2012 (RFC 6986, section 8) and its sums modulo 2 to the 512, on vectors of eight words, lowest first.
 ghost use mathlib.Core.Path.{_≡_};
 ghost use Prim.Native.Nat.{_+_, _*_, _^_, _<_, _≤_};
-ghost use lib.ListN.{getD, length};
-ghost use lib.Seq.{paste};
 ghost use Rattle.octets.specs.Same.{same};
-ghost use Rattle.lps.specs.Vectors.{each, X};
+ghost use Rattle.lps.specs.Vectors.{X};
 ghost use Rattle.rounds.specs.Sums.{_⊞_};
 ghost use Rattle.rounds.specs.Rounds.{constants, gOver, g};
-ghost use Rattle.rounds.specs.Keys.{keysOf, gBy};
+ghost use Rattle.rounds.specs.Lent.{vectorAt, laid};
+ghost use Rattle.rounds.specs.Keys.{keysOf, gWith};
 
 mod constants;
 
@@ -31,11 +30,16 @@ fn xor(a: [u64; 8], b: [u64; 8]) -> [u64; 8]
     ]
 }
 
-// The vector read from word p on.
-fn at(b: &[u64], p: usize) -> [u64; 8]
-    requires { ⌜ p + 8 ≤ length (now b) ⌝ }
-    ensures { λ r. ⌜ r ≡ each (λ j. getD (now (b .entry)) (p + j) 0) ⌝ }
+// The vector from word p on; where the words end before, zeros.
+pub fn vector(b: &[u64], p: usize) -> [u64; 8]
+    ensures { λ r. ⌜ r ≡ vectorAt (now (b .entry)) p ⌝ }
 {
+    if b.len() < 8 {
+        return [0; 8];
+    }
+    if b.len() - 8 < p {
+        return [0; 8];
+    }
     [
         b[p],
         b[p + 1],
@@ -48,14 +52,19 @@ fn at(b: &[u64], p: usize) -> [u64; 8]
     ]
 }
 
-// A vector written from word p on.
-fn put(b: &mut [u64], p: usize, v: [u64; 8])
-    requires { ⌜ p + 8 ≤ length (now b) ⌝ }
-    ensures { λ _. ⌜ now (b .exit) ≡ paste (now (b .entry)) p v 8 ⌝ }
+// Words written from word p on; where they do not fit, none is.
+pub fn lay(b: &mut [u64], p: usize, w: &[u64])
+    ensures { λ _. ⌜ now (b .exit) ≡ laid (now (b .entry)) p (now (w .entry)) ⌝ }
 {
+    if b.len() < w.len() {
+        return;
+    }
+    if b.len() - w.len() < p {
+        return;
+    }
     let mut j = 0;
-    while j < 8 {
-        b[p + j] = v[j];
+    while j < w.len() {
+        b[p + j] = w[j];
         j += 1;
     }
 }
@@ -77,25 +86,28 @@ pub fn round_keys(n: [u64; 8], h: [u64; 8]) -> [u64; 104]
     turn(&mut k, &n);
     let mut i = 0;
     while i < 12 {
-        put(&mut b, 8 * i, k);
+        lay(&mut b, 8 * i, &k);
         turn(&mut k, &c[i]);
         i += 1;
     }
-    put(&mut b, 96, k);
+    lay(&mut b, 96, &k);
     b
 }
 
-// g_n(h, m) by its round keys.
-pub fn compress_with(keys: [u64; 104], h: [u64; 8], m: [u64; 8]) -> [u64; 8]
-    ensures { λ r. ⌜ r ≡ gBy keys h m ⌝ }
+// g_n(h, m) by the 104 words of its round keys; by another number of words, zeros.
+pub fn compress_with(keys: &[u64], h: [u64; 8], m: [u64; 8]) -> [u64; 8]
+    ensures { λ r. ⌜ r ≡ gWith (now (keys .entry)) h m ⌝ }
 {
+    if keys.len() != 104 {
+        return [0; 8];
+    }
     let mut s = m;
     let mut i = 0;
     while i < 12 {
-        turn(&mut s, &at(&keys, 8 * i));
+        turn(&mut s, &vector(keys, 8 * i));
         i += 1;
     }
-    xor(xor(xor(at(&keys, 96), s), h), m)
+    xor(xor(xor(vector(keys, 96), s), h), m)
 }
 
 // Whether two vectors are equal.
@@ -142,7 +154,7 @@ pub fn compress_block(n: [u64; 8], h: [u64; 8], m: [u64; 8]) -> [u64; 8]
     ensures { λ r. ⌜ r ≡ g n h m ⌝ }
 {
     if alike(n, [0; 8]) && alike(h, [0x0101010101010101; 8]) {
-        return compress_with(FIRST_KEYS, h, m);
+        return compress_with(&FIRST_KEYS, h, m);
     }
     compress(n, h, m)
 }

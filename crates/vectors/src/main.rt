@@ -156,38 +156,42 @@ fn card_key(packed: bool, key: &[u8], digits: &[u8], sequence: &[u8]) {
     answer_key(keys::card_key(key, digits, sequence[0]));
 }
 
-// The derivation with a label of its own; a seed of 8 bytes also under the key kept, which must agree.
-fn labelled(key: &[u8], label: &[u8], seed: &[u8]) {
+// Whether the key kept gives the same bytes, where key, label and seed have the lengths for it.
+fn agrees_kept(key: &[u8], label: &[u8], seed: &[u8], bytes: &[u8]) -> bool {
     if key.len() != 32 {
-        return;
+        return true;
     }
     if label.len() != 4 {
-        return;
+        return true;
     }
-    let mut k = [0u8; 32];
-    let mut i = 0;
-    while i < 32 {
-        k[i] = key[i];
-        i += 1;
+    if seed.len() != 8 {
+        return true;
     }
     let l = [label[0], label[1], label[2], label[3]];
-    let x = derive::derive_with(derive::start(k), l, seed);
-    if seed.len() == 8 {
-        let s = [
-            seed[0],
-            seed[1],
-            seed[2],
-            seed[3],
-            seed[4],
-            seed[5],
-            seed[6],
-            seed[7],
-        ];
-        if !octets::same(&x, &derive::derive_kept(derive::keep(k), l, s)) {
-            return;
-        }
+    let s = [
+        seed[0],
+        seed[1],
+        seed[2],
+        seed[3],
+        seed[4],
+        seed[5],
+        seed[6],
+        seed[7],
+    ];
+    let kept = derive::keep(derive::key_of(key));
+    let r = derive::derive_kept(&kept, l, s);
+    let x = r.bytes;
+    octets::same(bytes, &x)
+}
+
+// The derivation with a label of its own; where the key kept gives another, no answer.
+fn labelled(key: &[u8], label: &[u8], seed: &[u8]) {
+    let r = derive::derivation(key, label, seed);
+    let bytes = r.bytes;
+    if !agrees_kept(key, label, seed, &bytes) {
+        return;
     }
-    answer(0, &x);
+    answer(r.code, &bytes);
 }
 
 // The operations of `pin`.

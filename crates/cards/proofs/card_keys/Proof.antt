@@ -5,8 +5,8 @@ use native.Mathlib.Omega.{arith}
 use borrow.Author.Needs.{needs}
 use borrow.Author.Tests.{not-true, not-false}
 use lib.ListN.{length}
-use Rattle.derive.specs.declared.Kept.{Kept}
 use Rattle.derive.specs.Kept.{kept}
+use Rattle.derive.proofs.Laws.{key-of-fits}
 use Rattle.cards.specs.Inner.{keysBy}
 use Rattle.cards.proofs.CardLaws.{no-key, no-cards, no-place, no-card, all-keys}
 use Rattle.cards.proofs.card_keys.Statement.{statement}
@@ -37,15 +37,18 @@ returns-5 c =
 
 returns-6 : tie.Need-returns-6
 returns-6 c =
-    let end = c .before .before .before .before .before .before in
-    let k = c .before .before .before .before .before .key-of in
+    let end = c .before .before .before .before .before .before .before in
+    let k = c .before .before .before .before .before .before .key-of in
     let first = end .before .before .before .before .before in
     let a = first .before .before .before .before .args in
-    let l : length (a .out .now) ≡ 32 * (length (a .cards .now) / 21) = omega arith in
-    all-keys (a .issuer .now) (a .cards .now) (a .out .now) (first .if1 .left) (end .before .before .before .before .if2 .left) l
+    let key = a .issuer .now in
+    let cards = a .cards .now in
+    let l : length (a .out .now) ≡ 32 * (length cards / 21) = omega arith in
+    all-keys key cards (a .out .now) (first .if1 .left) (end .before .before .before .before .if2 .left) l
     (sym (end .before .all-fit .ensures) ∙ not-false _ (end .if5 .left)) _
     (c .before .before .put-keys .ensures
-    ∙ ap (λ (x : Kept). keysBy x (length (a .cards .now) / 21) (a .cards .now)) (c .before .before .before .before .keep .ensures ∙ ap kept (k .ensures)))
+    ∙ ap (λ (ws : List ℕ). keysBy ws (length cards / 21) cards)
+    (c .before .before .before .before .before .keep .ensures ∙ ap kept (k .ensures ∙ key-of-fits key (first .if1 .left))))
 
 pub card-keys-spec : {M : Type 1} → statement M
 card-keys-spec =
@@ -59,6 +62,7 @@ card-keys-spec =
     returns-5
     (λ c κs. search needs)
     (λ c κs. search needs)
+    (λ c. search needs)
     (λ c κs. search needs)
     (λ c. search needs)
     returns-6)

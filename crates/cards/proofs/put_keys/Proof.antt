@@ -9,57 +9,60 @@ use Rattle.keys.specs.declared.SeedAnswer.{SeedAnswer}
 use Rattle.derive.specs.Kept.{derivedKept}
 use Rattle.derive.specs.Derivation.{cardLabel}
 use Rattle.cards.specs.Inner.{keysBy}
-use Rattle.cards.proofs.CardLaws.{key-turn, key-end, label}
+use Rattle.cards.proofs.CardLaws.{key-turn, key-end, key-bytes}
 use Rattle.cards.proofs.put_keys.Statement.{statement}
 use Rattle.cards.proofs.put_keys.Tie as tie
 
 abbrev Inv-loop : tie.InvT-loop
-Inv-loop k cards n out₀ i₀ out i =
-    (i ≤ n) × (length out ≡ 32 * n) × (take (32 * i) out ++ keysBy k (n - i) (drop (21 * i) cards) ≡ keysBy k n cards)
+Inv-loop ws cards n out₀ i₀ out i =
+    (i ≤ n) × (length out ≡ 32 * n) × (take (32 * i) out ++ keysBy ws (n - i) (drop (21 * i) cards) ≡ keysBy ws n cards)
 
 abbrev μ-loop : tie.MeasureT-loop
-μ-loop k cards n out₀ i₀ out i = n - i
+μ-loop ws cards n out₀ i₀ out i = n - i
 
 loop-holds : tie.Need-loop-holds Inv-loop μ-loop
 loop-holds c =
-    let start = c .before .before in
+    let start = c .before .before .before in
     let a = start .args in
     let e : a .n - 0 ≡ a .n = omega arith in
-    (omega arith, start .pre .1, ap (λ (j : ℕ). keysBy (a .k) j (a .cards .now)) e)
+    (omega arith, start .pre .2, ap (λ (j : ℕ). keysBy (a .kept .now) j (a .cards .now)) e)
 
 put-requires : tie.Need-put-requires Inv-loop μ-loop
 put-requires c κs =
-    let l = c .before .before .before .before .before .loop in
-    let e : length (l .out) ≡ 32 * c .before .before .before .before .before .before .before .before .args .n = l .inv .1 in
+    let l = c .before .before .before .before .before .before .before .loop in
+    let e : length (l .out) ≡ 32 * c .before .before .before .before .before .before .before .before .before .before .before .args .n = l .inv .1 in
     omega arith
 
 loop-again : tie.Need-loop-again Inv-loop μ-loop
 loop-again c =
-    let l = c .before .before .before .before .before .before .before .before .loop in
-    let a = c .before .before .before .before .before .before .before .before .before .before .before .args in
-    let s = c .before .before .before .before .before .before .seed-at in
-    let d = c .before .before .before .derive-kept in
+    let l = c .before .before .before .before .before .before .before .before .before .before .loop in
+    let start = c .before .before .before .before .before .before .before .before .before .before .before .before .before .before in
+    let a = start .args in
+    let ws = a .kept .now in
+    let s = c .before .before .before .before .before .before .before .before .seed-at in
+    let d = c .before .before .before .before .before .derive-kept in
+    let key = d .result .bytes in
     let q = c .before .before .put .ensures in
     let h : l .i < a .n = search needs in
     let m : length (l .out) ≡ 32 * a .n = l .inv .1 in
-    let n : length (d .result) ≡ 32 = search needs in
-    let e : d .result ≡ derivedKept (a .k) cardLabel (s .result .bytes) = label (a .k) (s .result .bytes) (d .result) (d .ensures) in
-    let f = e ∙ ap (λ (r : SeedAnswer). derivedKept (a .k) cardLabel (r .bytes)) (s .ensures) in (
+    let n : length key ≡ 32 = search (needs, d .ok) in
+    let e : key ≡ derivedKept ws cardLabel (s .result .bytes) = key-bytes ws (s .result .bytes) (d .result) _ (start .pre .0) (c .before .before .before .before .before .before .card-label .ensures) (d .ensures) in
+    let f = e ∙ ap (λ (r : SeedAnswer). derivedKept ws cardLabel (r .bytes)) (s .ensures) in (
       omega arith,
-      ap length q ∙ length-paste (l .out) (32 * l .i) (d .result) 32 (omega arith) (omega arith) ∙ m,
-      ap (λ (x : List ℕ). take (32 * (l .i + 1)) x ++ keysBy (a .k) (a .n - (l .i + 1)) (drop (21 * (l .i + 1)) (a .cards .now))) q
-          ∙ key-turn (a .cards .now) (a .n) (l .i) h (a .k) (l .out) (d .result) m n f
+      ap length q ∙ length-paste (l .out) (32 * l .i) key 32 (omega arith) (omega arith) ∙ m,
+      ap (λ (x : List ℕ). take (32 * (l .i + 1)) x ++ keysBy ws (a .n - (l .i + 1)) (drop (21 * (l .i + 1)) (a .cards .now))) q
+          ∙ key-turn (a .cards .now) (a .n) (l .i) h ws (l .out) key m n f
           ∙ l .inv .2,
     )
 
 same-length : tie.Need-same-length Inv-loop μ-loop
-same-length c = c .before .loop .inv .1 ∙ sym (c .before .before .before .before .pre .1)
+same-length c = c .before .loop .inv .1 ∙ sym (c .before .before .before .before .before .pre .2)
 
 returns : tie.Need-returns Inv-loop μ-loop
 returns c =
     let l = c .before .loop in
-    let a = c .before .before .before .before .args in
-    key-end (a .k) (a .cards .now) (l .out) (a .n) (l .i) (omega (arith, l .inv .0)) (l .inv .1) ∙ l .inv .2
+    let a = c .before .before .before .before .before .args in
+    key-end (a .kept .now) (a .cards .now) (l .out) (a .n) (l .i) (omega (arith, l .inv .0)) (l .inv .1) ∙ l .inv .2
 
 pub put-keys-spec : {M : Type 1} → statement M
 put-keys-spec =
@@ -70,8 +73,9 @@ put-keys-spec =
     loop-holds
     (λ c. search needs)
     (λ c κs. search needs)
-    (λ c. search needs)
     (λ c κs. search needs)
+    (λ c κs. search needs)
+    (λ c. search needs)
     put-requires
     (λ c. search needs)
     (λ c. search needs)

@@ -1,33 +1,34 @@
-use denote.Ref.{now}
 use mathlib.Core.Path.{ap, _∙_}
-use Rattle.derive.specs.declared.Started.{Started}
-use Rattle.derive.specs.Started.{started, derivedWith}
-use Rattle.derive.specs.Derivation.{cardLabel}
-use Rattle.derive.specs.Answers.{noKey, yes}
-use Rattle.derive.proofs.Laws.{no-key, no-seed, fits, derived-started}
+use mathlib.Core.List.{List}
+use Prim.Native.Nat.{ℕ}
+use Rattle.derive.specs.Derivation.{string, cardLabel}
+use Rattle.derive.specs.Answers.{noKey, maced}
+use Rattle.derive.proofs.Laws.{derivation-maced, card-no-seed, card-seed}
 use borrow.Author.Needs.{needs}
 use Rattle.derive.proofs.derive.Statement.{statement}
 use Rattle.derive.proofs.derive.Tie as tie
 
 returns : tie.Need-returns
 unfolding noKey
-returns c = no-key _ _ (c .if1 .taken)
+returns c = card-no-seed _ _ (c .if1 .taken)
 
 returns-2 : tie.Need-returns-2
-unfolding noKey
-returns-2 c = no-seed _ _ (c .if2 .taken)
-
-returns-3 : tie.Need-returns-3
-unfolding yes cardLabel
-returns-3 c =
-    let x = c .before .before .before .before .before .before .before .args in
-    ap yes
-    (c .derive-with .ensures
-    ∙ ap (λ (k : Started). derivedWith k cardLabel (now (x .seed))) (c .before .start .ensures ∙ ap started (c .before .before .key-of .ensures))
-    ∙ derived-started (now (x .key)) cardLabel (now (x .seed)))
-    ∙ fits (now (x .key)) (now (x .seed)) (c .before .before .before .before .if1 .left) (c .before .before .before .if2 .left)
+returns-2 c =
+    let a = c .before .before .before .before .before .before .before .args in
+    let key = a .key .now in
+    let seed = a .seed .now in
+    c .hmac .ensures
+    ∙ ap (maced key) (c .before .before .string .ensures ∙ ap (λ (l : List ℕ). string l seed) (c .before .before .before .card-label .ensures))
+    ∙ derivation-maced key cardLabel seed
+    ∙ card-seed key seed (c .before .before .before .before .if1 .left)
 
 pub derive-spec : {M : Type 1} → statement M
 derive-spec =
     tie.close
-    (tie.spec returns returns-2 (λ c κs. search needs) (λ c κs. search needs) (λ c κs. search needs) returns-3)
+    (tie.spec
+    returns
+    (λ c κs. search needs)
+    (λ c κs. c .before .if1 .left)
+    (λ c. search needs)
+    (λ c κs. search needs)
+    returns-2)

@@ -1,31 +1,29 @@
-use mathlib.Core.Path.{_≡_, ap, _∙_}
-use lib.ListN.{length}
+use mathlib.Core.Path.{_≡_, ap, ap₂, _∙_}
+use mathlib.Core.List.{List}
+use Prim.Native.Nat.{ℕ}
+use lib.ListN.{length, take, drop}
 use Rattle.hash.specs.Ahead.{endedAhead}
-use Rattle.derive.proofs.Laws.{kept-string}
+use Rattle.derive.specs.Answers.{noKey, yes}
+use Rattle.derive.proofs.Laws.{kept-no-words, kept-lent}
 use borrow.Author.Needs.{needs}
 use Rattle.derive.proofs.derive_kept.Statement.{statement}
 use Rattle.derive.proofs.derive_kept.Tie as tie
 
 returns : tie.Need-returns
-returns c =
-    let a = c .before .before .before .before .before .before .args in
-    let l : length (a .t2) ≡ 4 = search needs in
-    let s : length (a .t3) ≡ 8 = search needs in
-    c .end-ahead2 .ensures ∙ ap (endedAhead (a .k .outer)) (c .before .before .end-ahead .ensures) ∙ kept-string (a .k) (a .t2) (a .t3) l s
+unfolding noKey
+returns c = kept-no-words _ _ _ (c .if1 .taken)
+
+returns-2 : tie.Need-returns-2
+unfolding yes
+returns-2 c =
+    let a = c .before .before .before .before .before .before .before .before .before .before .args in
+    kept-lent (a .kept .now) (a .label) (a .t3) (c .before .before .before .before .before .before .before .before .if1 .left) _ _ (c .before .before .before .end-ahead .ensures ∙ ap (endedAhead (take 128 (a .kept .now))) (c .before .before .before .before .before .string .ensures)) (c .end-ahead2 .ensures)
 
 pub derive-kept-spec : {M : Type 1} → statement M
 derive-kept-spec =
     tie.close
     (tie.spec
-    (λ c. search needs)
-    (λ c. search needs)
-    (λ c. search needs)
-    (λ c. search needs)
-    (λ c. search needs)
-    (λ c. search needs)
-    (λ c. search needs)
-    (λ c. search needs)
-    (λ c. search needs)
+    returns
     (λ c. search needs)
     (λ c. search needs)
     (λ c. search needs)
@@ -33,4 +31,9 @@ derive-kept-spec =
     (λ c κs. search needs)
     (λ c. search needs)
     (λ c κs. search needs)
-    returns)
+    (λ c. search needs)
+    (λ c. search needs)
+    (λ c. search needs)
+    (λ c. search needs)
+    (λ c κs. search needs)
+    returns-2)

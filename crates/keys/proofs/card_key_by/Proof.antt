@@ -2,7 +2,7 @@ use denote.Ref.{now}
 use mathlib.Core.Path.{_≡_, sym, ap, _∙_}
 use borrow.Author.Tests.{not-false}
 use Rattle.octets.specs.Digits.{digits}
-use Rattle.derive.specs.Answers.{noKey, derivation}
+use Rattle.derive.specs.Answers.{noKey, cardDerivation}
 use Rattle.octets.specs.Digits.{pairs}
 use Rattle.keys.specs.CardNumber.{X, sixteen}
 use Rattle.octets.proofs.DigitLaws.{length-pairs}
@@ -36,7 +36,7 @@ returns-3 c =
     let x = c .before .before .before .before .before .before .before .before .before .args in
     let s = sixteen (X (now (x .pan)) (x .sequence)) in
     let y : c .before .before .pair-up .result ≡ pairs (x .base) s = c .before .before .pair-up .ensures ∙ ap (pairs (x .base)) (c .before .before .before .sixteen .ensures) in
-    c .derive .ensures ∙ ap (derivation (now (x .key))) y
+    c .derive .ensures ∙ ap (cardDerivation (now (x .key))) y
     ∙ card-yes (now (x .key)) (now (x .pan)) (x .sequence) (pairs (x .base) s) (c .before .before .before .before .before .before .if1 .left) (c .before .before .before .before .before .card-fits .result) (c .before .before .before .before .before .card-fits .ensures) (c .before .before .before .before .if2 .left) (length-pairs (x .base) s 8 (length-sixteen (X (now (x .pan)) (x .sequence))))
 
 pub card-key-by-spec : {M : Type 1} → statement M

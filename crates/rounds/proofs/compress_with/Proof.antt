@@ -8,46 +8,55 @@ use Rattle.lps.specs.Vectors.{X}
 use Rattle.lps.proofs.Words.{length-LPS}
 use Rattle.lps.proofs.Columns.{turned}
 use Rattle.rounds.specs.Keys.{through, gBy}
-use Rattle.rounds.proofs.KeyLaws.{X-at, through-turn, through-end}
+use Rattle.rounds.proofs.LentLaws.{X-at}
+use Rattle.rounds.proofs.KeyLaws.{through-turn, through-end, with-not, with-all}
 use Rattle.rounds.proofs.compress_with.Statement.{statement}
 use Rattle.rounds.proofs.compress_with.Tie as tie
 
 abbrev Inv-loop : tie.InvT-loop
-Inv-loop h m keys s₀ i₀ s i = (i ≤ 12) × (length s ≡ 8) × (through (12 - i) (drop (8 * i) keys) s ≡ through 12 keys m)
+Inv-loop keys h m s₀ i₀ s i = (i ≤ 12) × (length keys ≡ 104) × (length s ≡ 8) × (through (12 - i) (drop (8 * i) keys) s ≡ through 12 keys m)
 
 abbrev μ-loop : tie.MeasureT-loop
-μ-loop h m keys s₀ i₀ s i = 12 - i
+μ-loop keys h m s₀ i₀ s i = 12 - i
+
+returns : tie.Need-returns Inv-loop μ-loop
+returns c = with-not _ _ _ (c .if1 .taken)
 
 loop-holds : tie.Need-loop-holds Inv-loop μ-loop
-loop-holds c = let n : length (c .args .m) ≡ 8 = search needs in (omega arith, n, refl)
+loop-holds c = let n : length (c .before .before .args .m) ≡ 8 = search needs in (omega arith, c .if1 .left, n, refl)
 
 loop-again : tie.Need-loop-again Inv-loop μ-loop
 loop-again c =
-    let l = c .before .before .before .before .before .before .loop in
-    let a = c .before .before .before .before .before .before .before .args in
+    let l = c .before .before .before .before .before .loop in
+    let a = c .before .before .before .before .before .before .before .before .args in
+    let ks = a .keys .now in
     let h : l .i < 12 = search needs in
-    let k = c .before .before .at .result in
-    let e : X k (l .s) ≡ X (drop (8 * l .i) (a .t1)) (l .s) = ap (λ (x : List ℕ). X x (l .s)) (c .before .before .at .ensures) ∙ X-at (a .t1) (l .s) (8 * l .i) in
-    let r = c .turn .ensures ∙ turned (l .s) (X (l .s) k) (l .inv .1) in (
+    let n : length ks ≡ 104 = l .inv .1 in
+    let k = c .before .before .vector .result in
+    let e : X k (l .s) ≡ X (drop (8 * l .i) ks) (l .s) = ap (λ (x : List ℕ). X x (l .s)) (c .before .before .vector .ensures) ∙ X-at ks (8 * l .i) (l .s) (omega arith) in
+    let r = c .turn .ensures ∙ turned (l .s) (X (l .s) k) (l .inv .2) in (
       omega arith,
+      n,
       ap length r ∙ length-LPS (X (l .s) k),
-      ap (through (12 - (l .i + 1)) (drop (8 * (l .i + 1)) (a .t1))) r ∙ through-turn (a .t1) (a .m) (l .i) k (l .s) h e (l .inv .2),
+      ap (through (12 - (l .i + 1)) (drop (8 * (l .i + 1)) ks)) r ∙ through-turn ks (a .m) (l .i) k (l .s) h e (l .inv .3),
     )
 
-returns : tie.Need-returns Inv-loop μ-loop
+returns-2 : tie.Need-returns-2 Inv-loop μ-loop
 unfolding gBy
-returns c =
-    let l = c .before .before .before .before .before .before .loop in
-    let a = c .before .before .before .before .before .before .before .args in
-    let n : l .i ≤ 12 = l .inv .0 in
+returns-2 c =
+    let l = c .before .before .before .before .before .loop in
+    let a = c .before .before .before .before .before .before .before .before .args in
+    let ks = a .keys .now in
+    let n : length ks ≡ 104 = l .inv .1 in
     c .xor3 .ensures
     ∙ ap (λ (x : List ℕ). X x (a .m))
     (c .before .xor2 .ensures
     ∙ ap (λ (x : List ℕ). X x (a .h))
     (c .before .before .xor .ensures
-    ∙ ap (λ (x : List ℕ). X x (l .s)) (c .before .before .before .at2 .ensures)
-    ∙ X-at (a .t1) (l .s) 96
-    ∙ ap (X (drop 96 (a .t1))) (through-end (a .t1) (a .m) (l .i) (l .s) (omega arith) n (l .inv .2))))
+    ∙ ap (λ (x : List ℕ). X x (l .s)) (c .before .before .before .vector2 .ensures)
+    ∙ X-at ks 96 (l .s) (omega arith)
+    ∙ ap (X (drop 96 ks)) (through-end ks (a .m) (l .i) (l .s) (omega arith) (l .inv .0) (l .inv .3))))
+    ∙ with-all ks (a .h) (a .m) n
 
 pub compress-with-spec : {M : Type 1} → statement M
 compress-with-spec =
@@ -55,17 +64,16 @@ compress-with-spec =
     (tie.spec
     Inv-loop
     μ-loop
+    returns
     loop-holds
-    (λ c. search needs)
     (λ c. search needs)
     (λ c κs. search needs)
     (λ c κs. search needs)
     (λ c. search needs)
     (λ c. search needs)
     loop-again
-    (λ c. search needs)
     (λ c κs. search needs)
     (λ c κs. search needs)
     (λ c κs. search needs)
     (λ c κs. search needs)
-    returns)
+    returns-2)

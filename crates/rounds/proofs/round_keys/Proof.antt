@@ -9,6 +9,7 @@ use Rattle.lps.specs.Vectors.{X, LPS}
 use Rattle.lps.proofs.Words.{length-LPS}
 use Rattle.lps.proofs.Columns.{turned}
 use Rattle.rounds.specs.Keys.{schedule, keysOf}
+use Rattle.rounds.proofs.LentLaws.{laid-in}
 use Rattle.rounds.proofs.KeyLaws.{schedule-turn, schedule-end, Filled, filled-turn, filled-end}
 use Rattle.rounds.proofs.round_keys.Statement.{statement}
 use Rattle.rounds.proofs.round_keys.Tie as tie
@@ -25,21 +26,18 @@ loop-holds c =
     let e : length (a .h) ≡ 8 = search needs in
     (omega arith, ap length (c .turn .ensures ∙ turned (a .h) (X (a .h) (a .t1)) e) ∙ length-LPS (X (a .h) (a .t1)), (refl, refl))
 
-put-requires : tie.Need-put-requires Inv-loop μ-loop
-put-requires c κs = let l = c .before .before .loop in let e : length (l .b) ≡ 104 = l .inv .2 .0 in omega arith
-
 loop-again : tie.Need-loop-again Inv-loop μ-loop
 loop-again c =
-    let l = c .before .before .before .before .before .before .before .loop in
-    let first = c .before .before .before .before .before .before .before .before .turn in
-    let cs = c .before .before .before .before .before .before .before .before .before .before .before .iteration-constants .result in
+    let l = c .before .before .before .before .before .before .before .before .loop in
+    let first = c .before .before .before .before .before .before .before .before .before .turn in
+    let cs = c .before .before .before .before .before .before .before .before .before .before .before .before .iteration-constants .result in
     let all = schedule cs (first .last .0) in
     let m : length cs ≡ 12 = search needs in
     let h : l .i < length cs = omega arith in
     let v = getD cs (l .i) [] in
     let next = LPS (X (l .k) v) in
     let k = c .turn2 .ensures ∙ turned (l .k) (X (l .k) v) (l .inv .1) in
-    let q = c .before .before .before .before .put .ensures in
+    let q = c .before .before .before .before .lay .ensures ∙ laid-in (l .b) (8 * l .i) (l .k) 8 (l .inv .1) (omega (arith, l .inv .2 .0)) in
     let f = l .inv .2 in
     let t =
     filled-turn all (8 * l .i) (l .b) (l .k) (schedule (drop (l .i + 1) cs) next) (omega arith) (l .inv .1)
@@ -55,16 +53,13 @@ loop-again c =
       ),
     )
 
-put-requires-2 : tie.Need-put-requires-2 Inv-loop μ-loop
-put-requires-2 c κs = let l = c .before .before .loop in let e : length (l .b) ≡ 104 = l .inv .2 .0 in omega arith
-
 returns : tie.Need-returns Inv-loop μ-loop
 unfolding keysOf
 returns c =
-    let l = c .before .before .before .before .loop in
-    let first = c .before .before .before .before .before .turn in
-    let made = c .before .before .before .before .before .before .before .before .iteration-constants in
-    let a = c .before .before .before .before .before .before .before .before .before .args in
+    let l = c .before .before .before .before .before .loop in
+    let first = c .before .before .before .before .before .before .turn in
+    let made = c .before .before .before .before .before .before .before .before .before .iteration-constants in
+    let a = c .before .before .before .before .before .before .before .before .before .before .args in
     let cs = made .result in
     let all = schedule cs (first .last .0) in
     let m : length cs ≡ 12 = search needs in
@@ -74,7 +69,8 @@ returns c =
     let t =
     filled-turn all 96 (l .b) (l .k) [] (omega arith) (l .inv .1)
     (f .0, ap₂ (λ (p : ℕ) (x : List ℕ). take p (l .b) ++ x) e (append-nil (l .k) ∙ sym (schedule-end cs (l .i) (l .k) (omega arith))) ∙ f .1) in
-    c .before .put2 .ensures
+    c .before .lay2 .ensures
+    ∙ laid-in (l .b) 96 (l .k) 8 (l .inv .1) (omega (arith, f .0))
     ∙ filled-end all (paste (l .b) 96 (l .k) 8) t
     ∙ ap₂ schedule (made .ensures) (first .ensures ∙ turned (a .h) (X (a .h) (a .t1)) d)
 
@@ -89,7 +85,8 @@ round-keys-spec =
     loop-holds
     (λ c. search needs)
     (λ c. search needs)
-    put-requires
+    (λ c. search needs)
+    (λ c κs. search needs)
     (λ c. search needs)
     (λ c. search needs)
     (λ c κs. search needs)
@@ -97,5 +94,6 @@ round-keys-spec =
     (λ c. search needs)
     loop-again
     (λ c. search needs)
-    put-requires-2
+    (λ c. search needs)
+    (λ c κs. search needs)
     returns)

@@ -4,7 +4,7 @@ use native.Mathlib.Omega.{arith}
 use native.Mathlib.Nat.{add-sub-cancel-left}
 use mathlib.Core.Path.{_≡_, refl, sym, ap, ap₂, subst, _∙_}
 use mathlib.Core.Bool.{Bool, true, false, not, _&&_, _||_, cond, and-false, or-true}
-use mathlib.Core.List.{List}
+use mathlib.Core.List.{List, []}
 use lib.Dec.{eqb}
 use lib.ListN.{length, take, drop, length-append}
 use borrow.Author.Tests.{eq-eqb, ne-eqb, le-leb, lt-leb, not-true, not-false}
@@ -37,8 +37,8 @@ use Rattle.derive.specs.Derivation.{derived, cardLabel}
 use Rattle.derive.specs.Answers.{cardDerivation, yes as keyYes}
 use Rattle.derive.proofs.Laws as derivations
 use Rattle.keys.specs.Seeds.{sessionSeed}
-use Rattle.keys.proofs.AnswerLaws.{counter-yes}
-use Rattle.keys.specs.Answers.{sessionKey, scriptKey, counterKey}
+use Rattle.keys.proofs.AnswerLaws.{counter-yes, session-kept, script-kept}
+use Rattle.keys.specs.Answers.{sessionKey, scriptKey, counterKey, sessionKeyKept, scriptKeyKept}
 use Rattle.pin.specs.declared.PinRead.{PinRead}
 use Rattle.pin.specs.declared.Counters.{Counters as CounterStruct}
 use Rattle.pin.specs.CounterBlock.{counterBlock, countersOf}
@@ -56,7 +56,7 @@ use Rattle.card.specs.Record.{sound, Kept, kept, withTransaction, withKe
 use Rattle.card.specs.Keys.{sessionKeyOf, smiKey, smcKey, counterKeyOf}
 use Rattle.card.specs.Calls.{Call, Open, IssuerAnswer, Script, Close, Withdraw, Counters, Verdict, refuse, accept, firstStruck, read, judgedScript, judged, grown, cryptogramFor, arpcFor, countersFor}
 use Rattle.card.specs.Calls.{scriptChecks, gives, newPin, newMark, pend, laid, accepted, due, after, reply, plain, step}
-use Rattle.card.specs.Inner.{scriptAs, takenAs, obeyedAs, judgedAs}
+use Rattle.card.specs.Inner.{scriptAs, takenAs, obeyedAs, judgedAs, Fits}
 use Rattle.card.specs.Personalise.{blank, personalised}
 
 -- what is pending laid over what is kept
@@ -98,13 +98,21 @@ pub key-session : (r : Card) (x : KeyAnswer) → length (r .ac) ≡ 32 → x ≡
 unfolding sessionKeyOf sessionKey
 key-session r x k e = key-made _ _ x k (length-seed (r .atc)) e
 
-pub key-smi : (r : Card) (x : KeyAnswer) → length (r .smi) ≡ 32 → length (r .transaction .cryptogram) ≡ 8 → x ≡ scriptKey (r .smi) (r .transaction .cryptogram) → x .bytes ≡ smiKey r
-unfolding smiKey scriptKey
-key-smi r x k l e = key-made _ _ x k l e
+pub key-session-kept : (r : Card) (ws : List ℕ) (x : KeyAnswer) → length (r .ac) ≡ 32 → length ws ≡ 256 → Fits ws (r .ac) → x ≡ sessionKeyKept ws (r .atc) → x .bytes ≡ sessionKeyOf r
+key-session-kept r ws x k l f e =
+    key-session r x k (e ∙ ap (λ (v : List ℕ). sessionKeyKept v (r .atc)) (f l) ∙ session-kept (r .ac) (r .atc) k)
 
-pub key-smc : (r : Card) (x : KeyAnswer) → length (r .smc) ≡ 32 → length (r .transaction .cryptogram) ≡ 8 → x ≡ scriptKey (r .smc) (r .transaction .cryptogram) → x .bytes ≡ smcKey r
-unfolding smcKey scriptKey
-key-smc r x k l e = key-made _ _ x k l e
+pub key-script : (key g : List ℕ) (x : KeyAnswer) → length key ≡ 32 → length g ≡ 8 → x ≡ scriptKey key g → x .bytes ≡ derived key cardLabel g
+unfolding scriptKey
+key-script key g x k l e = key-made key g x k l e
+
+pub key-script-kept : (key ws g : List ℕ) (x : KeyAnswer) → length key ≡ 32 → length ws ≡ 256 → length g ≡ 8 → Fits ws key → x ≡ scriptKeyKept ws g → x .bytes ≡ derived key cardLabel g
+key-script-kept key ws g x k l n f e =
+    key-script key g x k n (e ∙ ap (λ (v : List ℕ). scriptKeyKept v g) (f l) ∙ script-kept key g k)
+
+-- words that are none fit every key
+pub none-fits : (key : List ℕ) → Fits [] key
+none-fits key e = absurd (omega arith)
 
 length-counters : (c : CounterStruct) → length (counterBlock c) ≡ 8
 unfolding counterBlock

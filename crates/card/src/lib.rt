@@ -1,5 +1,6 @@
 // The soft card: its record, and the calls, each of which takes the record and hands back the record after it.
 use answers::Refusal;
+use derive::KEPT_WORDS;
 use message::Command;
 use message::Listed;
 use message::Opened;
@@ -10,6 +11,7 @@ pub use transaction::Transaction;
 ghost use mathlib.Core.Path.{_≡_};
 ghost use Prim.Native.Nat.{_<_};
 ghost use lib.ListN.{length};
+ghost use Rattle.derive.specs.Derivation.{derived, cardLabel};
 ghost use Rattle.pin.specs.Answers.{decipherPin};
 ghost use Rattle.shapes.specs.Shape.{dataOf};
 ghost use Rattle.message.specs.Code.{codeFits};
@@ -19,7 +21,7 @@ ghost use Rattle.transaction.specs.Transaction.{spoilt as spoiltOf};
 ghost use Rattle.card.specs.Record.{sound, kept, withTransaction, withKept};
 ghost use Rattle.card.specs.Keys.{sessionKeyOf, smiKey, smcKey};
 ghost use Rattle.card.specs.Calls.{plain, arpcFor, countersFor, newMark, pend, laid, accepted, gives, reply, read, step, Open, IssuerAnswer, Script, Close, Withdraw, Counters as CountersCall};
-ghost use Rattle.card.specs.Inner.{takenAs, obeyedAs, judgedAs};
+ghost use Rattle.card.specs.Inner.{takenAs, obeyedAs, judgedAs, Fits};
 ghost use Rattle.card.specs.Personalise.{blank as blankAs, personalised};
 
 // The record.
@@ -85,41 +87,54 @@ fn spoiled(mut c: Card, code: u8) -> Reply
     plainly(c, code)
 }
 
-// The session keys of the transaction: for cryptograms, for codes, for secrecy.
-fn session_key(c: Card) -> [u8; 32]
-    ensures { λ r. ⌜ r ≡ sessionKeyOf c ⌝ }
+// The session keys of the transaction: for cryptograms, for codes, for secrecy. Each by the words of its master key, where they are lent.
+fn session_key(c: Card, ac: &[u64]) -> [u8; 32]
+    ensures { λ r. ⌜ (Fits (now (ac .entry)) (c .ac) → r ≡ sessionKeyOf c) ⌝ }
 {
+    if ac.len() == KEPT_WORDS {
+        let k = keys::session_key_kept(ac, c.atc);
+        return k.bytes;
+    }
     let master = c.ac;
     let r = keys::session_key(&master, c.atc);
     r.bytes
 }
 
-fn smi_key(c: Card) -> [u8; 32]
-    ensures { λ r. ⌜ r ≡ smiKey c ⌝ }
+// The key of a script by its master key, or by the words of that key.
+fn script_key(master: [u8; 32], words: &[u64], cryptogram: [u8; 8]) -> [u8; 32]
+    ensures { λ r. ⌜ (Fits (now (words .entry)) master → r ≡ derived master cardLabel cryptogram) ⌝ }
+{
+    if words.len() == KEPT_WORDS {
+        let k = keys::script_key_kept(words, &cryptogram);
+        return k.bytes;
+    }
+    let r = keys::script_key(&master, &cryptogram);
+    r.bytes
+}
+
+fn smi_key(c: Card, smi: &[u64]) -> [u8; 32]
+    ensures { λ r. ⌜ (Fits (now (smi .entry)) (c .smi) → r ≡ smiKey c) ⌝ }
 {
     let master = c.smi;
     let t = c.transaction;
     let g = t.cryptogram;
-    let r = keys::script_key(&master, &g);
-    r.bytes
+    script_key(master, smi, g)
 }
 
-fn smc_key(c: Card) -> [u8; 32]
-    ensures { λ r. ⌜ r ≡ smcKey c ⌝ }
+fn smc_key(c: Card, smc: &[u64]) -> [u8; 32]
+    ensures { λ r. ⌜ (Fits (now (smc .entry)) (c .smc) → r ≡ smcKey c) ⌝ }
 {
     let master = c.smc;
     let t = c.transaction;
     let g = t.cryptogram;
-    let r = keys::script_key(&master, &g);
-    r.bytes
+    script_key(master, smc, g)
 }
 
-// The ARPC that the card expects.
-fn arpc_for(c: Card, csu: &[u8]) -> [u8; 8]
+// The ARPC that the card expects, under its session key.
+fn arpc_for(c: Card, key: [u8; 32], csu: &[u8]) -> [u8; 8]
     requires { ⌜ length (now csu) ≡ 4 ⌝ }
-    ensures { λ r. ⌜ r ≡ arpcFor c (now (csu .entry)) ⌝ }
+    ensures { λ r. ⌜ (key ≡ sessionKeyOf c → r ≡ arpcFor c (now (csu .entry))) ⌝ }
 {
-    let key = session_key(c);
     let t = c.transaction;
     let g = t.cryptogram;
     let r = cryptogram::arpc(&key, &g, csu);
@@ -127,10 +142,10 @@ fn arpc_for(c: Card, csu: &[u8]) -> [u8; 8]
 }
 
 // The enciphered counter block.
-fn counters_for(c: Card) -> [u8; 8]
-    ensures { λ r. ⌜ r ≡ countersFor c ⌝ }
+fn counters_for(c: Card, ac: &[u64]) -> [u8; 8]
+    ensures { λ r. ⌜ (Fits (now (ac .entry)) (c .ac) → r ≡ countersFor c) ⌝ }
 {
-    let session = session_key(c);
+    let session = session_key(c, ac);
     let k = keys::counter_key(&session);
     let key = k.bytes;
     let n = c.counters;
@@ -162,15 +177,15 @@ fn lay(c: Card, t: Transaction) -> Card
 }
 
 // An accepted Open, of a record whose counters can grow.
-fn opened(mut c: Card, input: &[u8]) -> Reply
+fn opened(mut c: Card, ac: &[u64], input: &[u8]) -> Reply
     requires { ⌜ (c .atc < 65535) × ((c .counters .session < 65535) × (length (now input) ≡ 65)) ⌝ }
-    ensures { λ r. ⌜ r ≡ reply (accepted c (Open (now (input .entry)))) (gives c (Open (now (input .entry)))) ⌝ }
+    ensures { λ r. ⌜ (Fits (now (ac .entry)) (c .ac) → r ≡ reply (accepted c (Open (now (input .entry)))) (gives c (Open (now (input .entry))))) ⌝ }
 {
     c.atc += 1;
     let mut n = c.counters;
     n.session += 1;
     c.counters = n;
-    let key = session_key(c);
+    let key = session_key(c, ac);
     let kind = transaction::kind_for(c.mark);
     let g = cryptogram::cryptogram(&key, kind, c.atc, input);
     let bytes = g.bytes;
@@ -204,10 +219,10 @@ fn take_mark(mut c: Card, set: bool) -> Reply
 }
 
 // The PIN of an enciphered block becomes the pending one; or 9.
-fn take_pin(mut c: Card, block: &[u8]) -> Reply
-    ensures { λ r. ⌜ r ≡ takenAs c (One SetPin) (decipherPin (smcKey c) (now (block .entry))) ⌝ }
+fn take_pin(mut c: Card, smc: &[u64], block: &[u8]) -> Reply
+    ensures { λ r. ⌜ (Fits (now (smc .entry)) (c .smc) → r ≡ takenAs c (One SetPin) (decipherPin (smcKey c) (now (block .entry)))) ⌝ }
 {
-    let key = smc_key(c);
+    let key = smc_key(c, smc);
     let x = pin::decipher_pin(&key, block);
     if x.code != 0 {
         return spoiled(c, Refusal::PIN_FORMAT);
@@ -221,26 +236,34 @@ fn take_pin(mut c: Card, block: &[u8]) -> Reply
 }
 
 // What a command orders becomes pending; the block is the message's data.
-fn take(c: Card, command: Command, block: &[u8]) -> Reply
-    ensures { λ r. ⌜ r ≡ takenAs c (One command) (decipherPin (smcKey c) (now (block .entry))) ⌝ }
+fn take(c: Card, smc: &[u64], command: Command, block: &[u8]) -> Reply
+    ensures { λ r. ⌜ (Fits (now (smc .entry)) (c .smc) → r ≡ takenAs c (One command) (decipherPin (smcKey c) (now (block .entry)))) ⌝ }
 {
     match command {
-        Command::SetPin => take_pin(c, block),
+        Command::SetPin => take_pin(c, smc, block),
         Command::SetMark => take_mark(c, true),
         Command::ClearMark => take_mark(c, false),
     }
 }
 
 // The checks of a listed command. The fresh SMI key is counted before the code is looked at, and uncounted on a match.
-fn obey(mut c: Card, command: Command, header: &[u8], message: &[u8], block: &[u8]) -> Reply
+fn obey(
+    mut c: Card,
+    smi: &[u64],
+    smc: &[u64],
+    command: Command,
+    header: &[u8],
+    message: &[u8],
+    block: &[u8],
+) -> Reply
     requires { ⌜ now block ≡ dataOf (now message) ⌝ }
-    ensures { λ r. ⌜ r ≡ obeyedAs c (One command) (codeFits (smiKey c) (now (header .entry)) (now (message .entry))) (decipherPin (smcKey c) (dataOf (now (message .entry)))) ⌝ }
+    ensures { λ r. ⌜ (Fits (now (smi .entry)) (c .smi) → Fits (now (smc .entry)) (c .smc) → r ≡ obeyedAs c (One command) (codeFits (smiKey c) (now (header .entry)) (now (message .entry))) (decipherPin (smcKey c) (dataOf (now (message .entry))))) ⌝ }
 {
     let mut n = c.counters;
     if n.failures == 65535 {
         return spoiled(c, Refusal::COUNTER_FULL);
     }
-    let key = smi_key(c);
+    let key = smi_key(c, smi);
     n.failures += 1;
     c.counters = n;
     if !message::code_fits(&key, header, message) {
@@ -248,12 +271,12 @@ fn obey(mut c: Card, command: Command, header: &[u8], message: &[u8], block: &[u
     }
     n.failures -= 1;
     c.counters = n;
-    take(c, command, block)
+    take(c, smc, command, block)
 }
 
 // The checks of a script in an open transaction.
-fn judge(c: Card, header: &[u8], message: &[u8]) -> Reply
-    ensures { λ r. ⌜ r ≡ judgedAs c (now (header .entry)) (read c (now (header .entry)) (now (message .entry))) ⌝ }
+fn judge(c: Card, smi: &[u64], smc: &[u64], header: &[u8], message: &[u8]) -> Reply
+    ensures { λ r. ⌜ (Fits (now (smi .entry)) (c .smi) → Fits (now (smc .entry)) (c .smc) → r ≡ judgedAs c (now (header .entry)) (read c (now (header .entry)) (now (message .entry)))) ⌝ }
 {
     if header.len() != 4 {
         return spoiled(c, Refusal::INPUT);
@@ -265,7 +288,7 @@ fn judge(c: Card, header: &[u8], message: &[u8]) -> Reply
     match listed {
         Listed::One(command) => {
             let end = place + length;
-            obey(c, command, header, message, &message[place..end])
+            obey(c, smi, smc, command, header, message, &message[place..end])
         }
         Listed::Unlisted(why) => spoiled(c, why.number()),
     }
@@ -329,8 +352,15 @@ impl Card {
     }
 
     // Open, of the terminal's 65 bytes: 6, 1, 7.
-    pub fn open(mut self, input: &[u8]) -> Reply
+    pub fn open(self, input: &[u8]) -> Reply
         ensures { λ r. ⌜ r ≡ step self (Open (now (input .entry))) ⌝ }
+    {
+        self.open_kept(&[], input)
+    }
+
+    // The same for whoever keeps the master key: its words are lent, or none.
+    pub fn open_kept(mut self, ac: &[u64], input: &[u8]) -> Reply
+        ensures { λ r. ⌜ (Fits (now (ac .entry)) (self .ac) → r ≡ step self (Open (now (input .entry)))) ⌝ }
     {
         if !is_sound(self) {
             return plainly(self, Refusal::INPUT);
@@ -350,12 +380,18 @@ impl Card {
         if n.session == 65535 {
             return plainly(self, Refusal::COUNTER_FULL);
         }
-        opened(self, input)
+        opened(self, ac, input)
     }
 
     // The issuer's answer, ARPC and CSU: 6, 1, 11.
-    pub fn issuer_answer(mut self, arpc: &[u8], csu: &[u8]) -> Reply
+    pub fn issuer_answer(self, arpc: &[u8], csu: &[u8]) -> Reply
         ensures { λ r. ⌜ r ≡ step self (IssuerAnswer (now (arpc .entry)) (now (csu .entry))) ⌝ }
+    {
+        self.issuer_answer_kept(&[], arpc, csu)
+    }
+
+    pub fn issuer_answer_kept(mut self, ac: &[u64], arpc: &[u8], csu: &[u8]) -> Reply
+        ensures { λ r. ⌜ (Fits (now (ac .entry)) (self .ac) → r ≡ step self (IssuerAnswer (now (arpc .entry)) (now (csu .entry)))) ⌝ }
     {
         if !is_sound(self) {
             return plainly(self, Refusal::INPUT);
@@ -371,7 +407,7 @@ impl Card {
         if csu.len() != 4 {
             return plainly(self, Refusal::INPUT);
         }
-        let own = arpc_for(self, csu);
+        let own = arpc_for(self, session_key(self, ac), csu);
         if !octets::same(arpc, &own) {
             return plainly(self, Refusal::ARPC_DIFFERS);
         }
@@ -382,8 +418,14 @@ impl Card {
     }
 
     // A script command, header and message: 6, 1, 4, 5, 7, 8, 9.
-    pub fn script(mut self, header: &[u8], message: &[u8]) -> Reply
+    pub fn script(self, header: &[u8], message: &[u8]) -> Reply
         ensures { λ r. ⌜ r ≡ step self (Script (now (header .entry)) (now (message .entry))) ⌝ }
+    {
+        self.script_kept(&[], &[], header, message)
+    }
+
+    pub fn script_kept(mut self, smi: &[u64], smc: &[u64], header: &[u8], message: &[u8]) -> Reply
+        ensures { λ r. ⌜ (Fits (now (smi .entry)) (self .smi) → Fits (now (smc .entry)) (self .smc) → r ≡ step self (Script (now (header .entry)) (now (message .entry)))) ⌝ }
     {
         if !is_sound(self) {
             return plainly(self, Refusal::INPUT);
@@ -393,7 +435,7 @@ impl Card {
         if !transaction::is_open(phase) {
             return plainly(self, Refusal::PHASE_WRONG);
         }
-        judge(self, header, message)
+        judge(self, smi, smc, header, message)
     }
 
     // Close: 6, 1, 10. What is pending becomes what is kept, or is dropped.
@@ -433,6 +475,12 @@ impl Card {
     pub fn counter_block(self) -> Reply
         ensures { λ r. ⌜ r ≡ step self CountersCall ⌝ }
     {
+        self.counter_block_kept(&[])
+    }
+
+    pub fn counter_block_kept(self, ac: &[u64]) -> Reply
+        ensures { λ r. ⌜ (Fits (now (ac .entry)) (self .ac) → r ≡ step self CountersCall) ⌝ }
+    {
         if !is_sound(self) {
             return plainly(self, Refusal::INPUT);
         }
@@ -441,7 +489,7 @@ impl Card {
         if !transaction::is_open(phase) {
             return plainly(self, Refusal::PHASE_WRONG);
         }
-        let bytes = counters_for(self);
+        let bytes = counters_for(self, ac);
         Reply {
             card: self,
             code: 0,

@@ -1,2 +1,3 @@
 pub mod PartLaws
 pub mod FrameLaws
+pub mod MasterLaws

@@ -11,6 +11,8 @@ ghost use mathlib.Core.Bool.{true};
 ghost use Prim.Native.Nat.{_+_, _≤_, _/_};
 ghost use lib.ListN.{length, take, drop};
 ghost use Rattle.card.specs.Calls.{plain, step, IssuerAnswer, Script, Close, Withdraw, Counters};
+ghost use Rattle.card.specs.Record.{masters};
+ghost use Rattle.card.specs.Inner.{Fits, FitAll};
 ghost use Rattle.lines.specs.Lines.{longest, hexadecimal, octetsOf};
 ghost use Rattle.lines.specs.Said.{said};
 ghost use Rattle.frames.specs.Frames.{part, personalisedBy, starts, overlong, bare, called, framed, answerTo};
@@ -120,23 +122,23 @@ fn too_long(card: Card) -> Reply
 }
 
 // Frame 02 after its first byte: ARPC and CSU.
-fn issuer_answer(card: Card, rest: &[u8]) -> Reply
-    ensures { λ r. ⌜ r ≡ step card (IssuerAnswer (take 8 (now (rest .entry))) (drop 8 (now (rest .entry)))) ⌝ }
+fn issuer_answer(card: Card, ac: &[u64], rest: &[u8]) -> Reply
+    ensures { λ r. ⌜ (Fits (now (ac .entry)) (card .ac) → r ≡ step card (IssuerAnswer (take 8 (now (rest .entry))) (drop 8 (now (rest .entry))))) ⌝ }
 {
     if rest.len() < 8 {
-        return card.issuer_answer(rest, &[]);
+        return card.issuer_answer_kept(ac, rest, &[]);
     }
-    card.issuer_answer(&rest[..8], &rest[8..])
+    card.issuer_answer_kept(ac, &rest[..8], &rest[8..])
 }
 
 // Frame 03 after its first byte: header and message.
-fn script(card: Card, rest: &[u8]) -> Reply
-    ensures { λ r. ⌜ r ≡ step card (Script (take 4 (now (rest .entry))) (drop 4 (now (rest .entry)))) ⌝ }
+fn script(card: Card, smi: &[u64], smc: &[u64], rest: &[u8]) -> Reply
+    ensures { λ r. ⌜ (Fits (now (smi .entry)) (card .smi) → Fits (now (smc .entry)) (card .smc) → r ≡ step card (Script (take 4 (now (rest .entry))) (drop 4 (now (rest .entry))))) ⌝ }
 {
     if rest.len() < 4 {
-        return card.script(rest, &[]);
+        return card.script_kept(smi, smc, rest, &[]);
     }
-    card.script(&rest[..4], &rest[4..])
+    card.script_kept(smi, smc, &rest[..4], &rest[4..])
 }
 
 // Frames 04 to 06 after their first byte.
@@ -158,32 +160,32 @@ fn withdraw(card: Card, rest: &[u8]) -> Reply
     card.withdraw()
 }
 
-fn counter_block(card: Card, rest: &[u8]) -> Reply
-    ensures { λ r. ⌜ r ≡ bare (now (rest .entry)) (step card Counters) (overlong card) ⌝ }
+fn counter_block(card: Card, ac: &[u64], rest: &[u8]) -> Reply
+    ensures { λ r. ⌜ (Fits (now (ac .entry)) (card .ac) → r ≡ bare (now (rest .entry)) (step card Counters) (overlong card)) ⌝ }
 {
     if rest.len() != 0 {
         return too_long(card);
     }
-    card.counter_block()
+    card.counter_block_kept(ac)
 }
 
 // What the card answers to a frame 01 to 06.
-fn call(card: Card, tag: u8, rest: &[u8]) -> Reply
-    ensures { λ r. ⌜ r ≡ called card tag (now (rest .entry)) ⌝ }
+fn call(card: Card, ac: &[u64], smi: &[u64], smc: &[u64], tag: u8, rest: &[u8]) -> Reply
+    ensures { λ r. ⌜ (FitAll (now (ac .entry)) (now (smi .entry)) (now (smc .entry)) (masters card) → r ≡ called card tag (now (rest .entry))) ⌝ }
 {
     match tag {
-        1 => card.open(rest),
-        2 => issuer_answer(card, rest),
-        3 => script(card, rest),
+        1 => card.open_kept(ac, rest),
+        2 => issuer_answer(card, ac, rest),
+        3 => script(card, smi, smc, rest),
         4 => close(card, rest),
         5 => withdraw(card, rest),
-        _ => counter_block(card, rest),
+        _ => counter_block(card, ac, rest),
     }
 }
 
 // The answer to a frame: its first byte, and the rest.
-fn frame(held: Held, tag: u8, rest: &[u8]) -> Said
-    ensures { λ r. ⌜ r ≡ said (framed held tag (now (rest .entry))) ⌝ }
+fn frame(held: Held, ac: &[u64], smi: &[u64], smc: &[u64], tag: u8, rest: &[u8]) -> Said
+    ensures { λ r. ⌜ (FitAll (now (ac .entry)) (now (smi .entry)) (now (smc .entry)) (masters (held .card)) → r ≡ said (framed held tag (now (rest .entry)))) ⌝ }
 {
     if tag == 0 {
         return personalise(held, rest);
@@ -192,13 +194,13 @@ fn frame(held: Held, tag: u8, rest: &[u8]) -> Said
         return lines::short(held, Refusal::PHASE_WRONG);
     }
     let card = held.card;
-    lines::replied(tag, call(card, tag, rest))
+    lines::replied(tag, call(card, ac, smi, smc, tag, rest))
 }
 
 // The answer to a line of digits.
-fn read(held: Held, text: &[u8]) -> Said
+fn read(held: Held, ac: &[u64], smi: &[u64], smc: &[u64], text: &[u8]) -> Said
     requires { ⌜ (length (now text) ≤ longest) × (hexadecimal (now text) ≡ true) ⌝ }
-    ensures { λ r. ⌜ r ≡ said (answerTo held (now (text .entry))) ⌝ }
+    ensures { λ r. ⌜ (FitAll (now (ac .entry)) (now (smi .entry)) (now (smc .entry)) (masters (held .card)) → r ≡ said (answerTo held (now (text .entry)))) ⌝ }
 {
     let bytes = octets_of(text);
     let tag = bytes[0];
@@ -206,12 +208,26 @@ fn read(held: Held, text: &[u8]) -> Said
         return lines::short(held, Refusal::UNREADABLE);
     }
     let m = text.len() / 2;
-    frame(held, tag, &bytes[1..m])
+    frame(held, ac, smi, smc, tag, &bytes[1..m])
 }
 
 // The answer to a line of n signs.
 pub fn answer(held: Held, line: [u8; KEPT], n: usize) -> Said
     ensures { λ r. ⌜ r ≡ said (answerTo held (take n line)) ⌝ }
+{
+    answer_kept(held, &[], &[], &[], line, n)
+}
+
+// The same for whoever keeps the record's master keys: their words are lent, or none.
+pub fn answer_kept(
+    held: Held,
+    ac: &[u64],
+    smi: &[u64],
+    smc: &[u64],
+    line: [u8; KEPT],
+    n: usize,
+) -> Said
+    ensures { λ r. ⌜ (FitAll (now (ac .entry)) (now (smi .entry)) (now (smc .entry)) (masters (held .card)) → r ≡ said (answerTo held (take n line))) ⌝ }
 {
     if n > LONGEST {
         return lines::short(held, Refusal::UNREADABLE);
@@ -220,5 +236,5 @@ pub fn answer(held: Held, line: [u8; KEPT], n: usize) -> Said
     if !lines::is_hexadecimal(text) {
         return lines::short(held, Refusal::UNREADABLE);
     }
-    read(held, text)
+    read(held, ac, smi, smc, text)
 }

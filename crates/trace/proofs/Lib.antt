@@ -1,3 +1,4 @@
 pub mod FeedLaws
 pub mod TraceLaws
 pub mod FillLaws
+pub mod KeptLaws

@@ -1,2 +1,3 @@
 pub mod Traced
 pub mod Feeding
+pub mod Inner

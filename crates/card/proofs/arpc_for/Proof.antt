@@ -4,14 +4,9 @@ use Rattle.card.proofs.arpc_for.Statement.{statement}
 use Rattle.card.proofs.arpc_for.Tie as tie
 
 returns : tie.Need-returns
-returns c = search (arpc-made, needs)
+returns c = λ e. search (arpc-made, needs)
 
 pub arpc-for-spec : {M : Type 1} → statement M
 arpc-for-spec =
     tie.close
-    (tie.spec
-    (λ c κs. search needs)
-    (λ c. search needs)
-    (λ c. search needs)
-    (λ c κs. search needs)
-    returns)
+    (tie.spec (λ c. search needs) (λ c. search needs) (λ c κs. search needs) returns)

@@ -23,7 +23,7 @@ obey-requires : tie.Need-obey-requires
 obey-requires c κs = search judge-data
 
 returns-3 : tie.Need-returns-3
-returns-3 c = search judge-listed
+returns-3 c = λ smi smc. let e = c .obey .ensures smi smc in search judge-listed
 
 returns-4 : tie.Need-returns-4
 returns-4 c = search judge-unlisted

@@ -4,7 +4,7 @@ use Rattle.card.proofs.opened.Statement.{statement}
 use Rattle.card.proofs.opened.Tie as tie
 
 returns : tie.Need-returns
-returns c = search (opened-by, needs)
+returns c = λ fits. let e = c .before .before .before .before .before .before .session-key .ensures fits in search (opened-by, needs)
 
 pub opened-spec : {M : Type 1} → statement M
 opened-spec =

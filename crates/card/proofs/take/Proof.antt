@@ -4,7 +4,7 @@ use Rattle.card.proofs.take.Statement.{statement}
 use Rattle.card.proofs.take.Tie as tie
 
 returns : tie.Need-returns
-returns c = search taken-pin
+returns c = λ fits. let e = c .take-pin .ensures fits in search taken-pin
 
 returns-2 : tie.Need-returns-2
 returns-2 c = search taken-set

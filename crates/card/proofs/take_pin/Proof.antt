@@ -4,10 +4,10 @@ use Rattle.card.proofs.take_pin.Statement.{statement}
 use Rattle.card.proofs.take_pin.Tie as tie
 
 returns : tie.Need-returns
-returns c = search pin-no
+returns c = λ fits. let e = c .before .before .before .before .before .smc-key .ensures fits in search pin-no
 
 returns-2 : tie.Need-returns-2
-returns-2 c = search pin-yes
+returns-2 c = λ fits. let e = c .before .before .before .before .before .before .before .smc-key .ensures fits in search pin-yes
 
 pub take-pin-spec : {M : Type 1} → statement M
 take-pin-spec =

@@ -4,13 +4,13 @@ use Rattle.frames.proofs.call.Statement.{statement}
 use Rattle.frames.proofs.call.Tie as tie
 
 returns : tie.Need-returns
-returns c = search called-1
+returns c = λ fits. let e = c .open-kept .ensures (fits .0) in search called-1
 
 returns-2 : tie.Need-returns-2
-returns-2 c = search called-2
+returns-2 c = λ fits. let e = c .issuer-answer .ensures (fits .0) in search called-2
 
 returns-3 : tie.Need-returns-3
-returns-3 c = search called-3
+returns-3 c = λ fits. let e = c .script .ensures (fits .1) (fits .2) in search called-3
 
 returns-4 : tie.Need-returns-4
 returns-4 c = search called-4
@@ -19,7 +19,7 @@ returns-5 : tie.Need-returns-5
 returns-5 c = search called-5
 
 returns-6 : tie.Need-returns-6
-returns-6 c = called-6 _ _ _ _ (c .before .match .rest) (c .counter-block .ensures)
+returns-6 c = λ fits. called-6 _ _ _ _ (c .before .match .rest) (c .counter-block .ensures (fits .0))
 
 pub call-spec : {M : Type 1} → statement M
 call-spec =

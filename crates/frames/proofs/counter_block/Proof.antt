@@ -7,7 +7,7 @@ returns : tie.Need-returns
 returns c = search bare-not
 
 returns-2 : tie.Need-returns-2
-returns-2 c = search bare-so
+returns-2 c = λ fits. let e = c .counter-block-kept .ensures fits in search bare-so
 
 pub counter-block-spec : {M : Type 1} → statement M
 counter-block-spec =

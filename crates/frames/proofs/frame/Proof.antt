@@ -10,7 +10,7 @@ returns-2 : tie.Need-returns-2
 returns-2 c = search framed-none
 
 returns-3 : tie.Need-returns-3
-returns-3 c = search framed-one
+returns-3 c = λ fits. let e = c .before .call .ensures fits in search framed-one
 
 pub frame-spec : {M : Type 1} → statement M
 frame-spec =

@@ -7,13 +7,13 @@ returns : tie.Need-returns
 returns c = search read-above
 
 sub-frame : tie.Need-sub-frame
-sub-frame c = hexadecimal-some _ (c .before .before .before .pre .1)
+sub-frame c = hexadecimal-some _ (c .before .before .before .before .before .before .pre .1)
 
 part-frame-start : tie.Need-part-frame-start
-part-frame-start c = hexadecimal-some _ (c .before .before .before .before .pre .1)
+part-frame-start c = hexadecimal-some _ (c .before .before .before .before .before .before .before .pre .1)
 
 returns-2 : tie.Need-returns-2
-returns-2 c = search read-done
+returns-2 c = λ fits. let e = c .frame .ensures fits in search read-done
 
 pub read-spec : {M : Type 1} → statement M
 read-spec =

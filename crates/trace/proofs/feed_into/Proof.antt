@@ -2,66 +2,84 @@ use mathlib.Core.Path.{_≡_, refl}
 use native.Mathlib.Omega.{arith}
 use Prim.Native.Nat.{ℕ, _+_, _-_, _*_, _/_, _≤_, _<_}
 use lib.ListN.{length}
-use Rattle.trace.proofs.FillLaws.{At, at-first, at-turn, fills-end, fills-full, turn-count, turn-taken}
 use borrow.Author.Needs.{needs}
+use Rattle.card.specs.Record.{masters}
+use Rattle.trace.specs.Inner.{Ready}
+use Rattle.trace.proofs.KeptLaws.{ready-start, ready-next}
+use Rattle.trace.proofs.FillLaws.{At, at-first, at-turn, fills-end, fills-full, turn-count, turn-taken}
 use Rattle.trace.proofs.feed_into.Statement.{statement}
 use Rattle.trace.proofs.feed_into.Tie as tie
 
 abbrev Inv-loop : tie.InvT-loop
-Inv-loop input out₀ after₀ taken₀ written₀ out after taken written = At after₀ input out₀ out after taken written × (length input < 18446744073709551616) × (length out₀ < 18446744073709551616)
+Inv-loop input out₀ ac₀ smi₀ smc₀ have₀ after₀ taken₀ written₀ out ac smi smc have after taken written =
+    At after₀ input out₀ out after taken written × (length input < 18446744073709551616) × (length out₀ < 18446744073709551616) × Ready ac smi smc have (masters (after .held .card))
 
 abbrev μ-loop : tie.MeasureT-loop
-μ-loop input out₀ after₀ taken₀ written₀ out after taken written = length input - taken
+μ-loop input out₀ ac₀ smi₀ smc₀ have₀ after₀ taken₀ written₀ out ac smi smc have after taken written =
+    length input - taken
 
 loop-holds : tie.Need-loop-holds Inv-loop μ-loop
-loop-holds c = (at-first _ _ _, omega arith, omega arith)
+loop-holds c = (at-first _ _ _, omega arith, omega arith, ready-start _ _ _ _ _ (c .no-words .ensures) (search needs) (search needs) (search needs))
+
+turn-requires : tie.Need-turn-requires Inv-loop μ-loop
+turn-requires c κs = c .before .before .before .before .before .before .loop .inv .3
 
 put-requires : tie.Need-put-requires Inv-loop μ-loop
 put-requires c κs =
-    let f = c .before .before .before .feed in
-    let l = c .before .before .before .before .before .before .before .loop in
-    let s = c .before .before .before .before .before .before .before .before .before .before .args .input .now in
-    let q : length (f .result .answer) ≡ 21 = search needs in
-    let n : f .result .count ≤ 21 = turn-count s (l .after) (l .taken) (f .result) (f .ensures) q in
+    let f = c .before .before .before .before .before .before .before .turn in
+    let l = c .before .before .before .before .before .before .before .before .before .before .before .before .before .before .loop in
+    let s = c .before .before .before .before .before .before .before .before .before .before .before .before .before .before .before .before .before .before .args .input .now in
+    let q = f .ensures .long in
+    let test = c .before .before .before .before .before .before .before .before .before .before .before .before .before .loop-test .taken in
+    let room = c .before .before .before .before .before .before .before .before .before .before .before .before .if1 .left in
+    let n : f .result .fed .count ≤ 21 = turn-count s (l .after) (l .taken) (f .result .fed) (f .ensures .feeds) q in
     (omega (arith, l .inv .0 .written), n)
 
 add-taken : tie.Need-add-taken Inv-loop μ-loop
 add-taken c =
-    let f = c .before .before .before .before .before .before .before .before .feed in
-    let l = c .before .before .before .before .before .before .before .before .before .before .before .before .loop in
-    let s = c .before .before .before .before .before .before .before .before .before .before .before .before .before .before .before .args .input .now in
-    let q : length (f .result .answer) ≡ 21 = search needs in
-    let n : f .result .count ≤ 21 = turn-count s (l .after) (l .taken) (f .result) (f .ensures) q in
-    let u = turn-taken s (l .after) (l .taken) (f .result) (f .ensures) (omega arith) in
+    let f = c .before .before .before .before .before .before .before .before .before .before .before .before .before .turn in
+    let l = c .before .before .before .before .before .before .before .before .before .before .before .before .before .before .before .before .before .before .before .before .loop in
+    let s = c .before .before .before .before .before .before .before .before .before .before .before .before .before .before .before .before .before .before .before .before .before .before .before .before .args .input .now in
+    let q = f .ensures .long in
+    let test = c .before .before .before .before .before .before .before .before .before .before .before .before .before .before .before .before .before .before .before .loop-test .taken in
+    let room = c .before .before .before .before .before .before .before .before .before .before .before .before .before .before .before .before .before .before .if1 .left in
+    let n : f .result .fed .count ≤ 21 = turn-count s (l .after) (l .taken) (f .result .fed) (f .ensures .feeds) q in
+    let u = turn-taken s (l .after) (l .taken) (f .result .fed) (f .ensures .feeds) (omega arith) in
     omega (arith, u .0, l .inv .1)
 
 add-written : tie.Need-add-written Inv-loop μ-loop
 add-written c =
-    let f = c .before .before .before .before .before .before .before .before .feed in
-    let l = c .before .before .before .before .before .before .before .before .before .before .before .before .loop in
-    let s = c .before .before .before .before .before .before .before .before .before .before .before .before .before .before .before .args .input .now in
-    let q : length (f .result .answer) ≡ 21 = search needs in
-    let n : f .result .count ≤ 21 = turn-count s (l .after) (l .taken) (f .result) (f .ensures) q in
+    let f = c .before .before .before .before .before .before .before .before .before .before .before .before .before .turn in
+    let l = c .before .before .before .before .before .before .before .before .before .before .before .before .before .before .before .before .before .before .before .before .loop in
+    let s = c .before .before .before .before .before .before .before .before .before .before .before .before .before .before .before .before .before .before .before .before .before .before .before .before .args .input .now in
+    let q = f .ensures .long in
+    let test = c .before .before .before .before .before .before .before .before .before .before .before .before .before .before .before .before .before .before .before .loop-test .taken in
+    let room = c .before .before .before .before .before .before .before .before .before .before .before .before .before .before .before .before .before .before .if1 .left in
+    let n : f .result .fed .count ≤ 21 = turn-count s (l .after) (l .taken) (f .result .fed) (f .ensures .feeds) q in
     omega (arith, l .inv .0 .written, l .inv .0 .room, l .inv .2)
 
 loop-less : tie.Need-loop-less Inv-loop μ-loop
 loop-less c =
-    let f = c .before .before .before .before .before .before .before .before .feed in
-    let l = c .before .before .before .before .before .before .before .before .before .before .before .before .loop in
-    let s = c .before .before .before .before .before .before .before .before .before .before .before .before .before .before .before .args .input .now in
-    let q : length (f .result .answer) ≡ 21 = search needs in
-    let n : f .result .count ≤ 21 = turn-count s (l .after) (l .taken) (f .result) (f .ensures) q in
-    let u = turn-taken s (l .after) (l .taken) (f .result) (f .ensures) (omega arith) in
+    let f = c .before .before .before .before .before .before .before .before .before .before .before .before .before .turn in
+    let l = c .before .before .before .before .before .before .before .before .before .before .before .before .before .before .before .before .before .before .before .before .loop in
+    let s = c .before .before .before .before .before .before .before .before .before .before .before .before .before .before .before .before .before .before .before .before .before .before .before .before .args .input .now in
+    let q = f .ensures .long in
+    let test = c .before .before .before .before .before .before .before .before .before .before .before .before .before .before .before .before .before .before .before .loop-test .taken in
+    let room = c .before .before .before .before .before .before .before .before .before .before .before .before .before .before .before .before .before .before .if1 .left in
+    let n : f .result .fed .count ≤ 21 = turn-count s (l .after) (l .taken) (f .result .fed) (f .ensures .feeds) q in
+    let u = turn-taken s (l .after) (l .taken) (f .result .fed) (f .ensures .feeds) (omega arith) in
     omega (arith, u .0, u .1)
 
 loop-again : tie.Need-loop-again Inv-loop μ-loop
 loop-again c =
-    let f = c .before .before .before .before .before .before .before .before .feed in
-    let l = c .before .before .before .before .before .before .before .before .before .before .before .before .loop in
-    let s = c .before .before .before .before .before .before .before .before .before .before .before .before .before .before .before .args .input .now in
-    let q : length (f .result .answer) ≡ 21 = search needs in
-    let n : f .result .count ≤ 21 = turn-count s (l .after) (l .taken) (f .result) (f .ensures) q in
-    (at-turn _ s _ _ _ (l .after) (l .taken) (l .written) (f .result .count) (f .result) (l .inv .0) (omega arith) (omega arith) (f .ensures) refl (omega arith) n (c .before .before .before .before .put .ensures), l .inv .1, l .inv .2)
+    let f = c .before .before .before .before .before .before .before .before .before .before .before .before .before .turn in
+    let l = c .before .before .before .before .before .before .before .before .before .before .before .before .before .before .before .before .before .before .before .before .loop in
+    let s = c .before .before .before .before .before .before .before .before .before .before .before .before .before .before .before .before .before .before .before .before .before .before .before .before .args .input .now in
+    let q = f .ensures .long in
+    let test = c .before .before .before .before .before .before .before .before .before .before .before .before .before .before .before .before .before .before .before .loop-test .taken in
+    let room = c .before .before .before .before .before .before .before .before .before .before .before .before .before .before .before .before .before .before .if1 .left in
+    let n : f .result .fed .count ≤ 21 = turn-count s (l .after) (l .taken) (f .result .fed) (f .ensures .feeds) q in
+    (at-turn _ s _ _ _ (l .after) (l .taken) (l .written) (f .result .fed .count) (f .result .fed) (l .inv .0) (omega arith) (omega arith) (f .ensures .feeds) refl (omega arith) n (c .before .before .before .before .before .put .ensures), l .inv .1, l .inv .2, ready-next (f .ensures .feeds) (f .ensures .ready))
 
 same-length : tie.Need-same-length Inv-loop μ-loop
 same-length c = c .before .loop .inv .0 .room
@@ -81,12 +99,16 @@ feed-into-spec =
     (tie.spec
     Inv-loop
     μ-loop
+    (λ c κs. search needs)
     loop-holds
     (λ c. search needs)
     (λ c. search needs)
     (λ c. search needs)
     (λ c. search needs)
-    (λ c κs. search needs)
+    (λ c. search needs)
+    (λ c. search needs)
+    (λ c. search needs)
+    turn-requires
     (λ c. search needs)
     put-requires
     add-taken

@@ -1,14 +1,7 @@
 /* The box: keys, codes, PIN blocks, cryptograms and script messages of the Mir scheme, for C and C++.
  *
- * Every function returns the number of its refusal, and 0 where it accepts:
- *    1  an input or a lent output has not the length or range stated
- *    2  card number not of 12 to 19 digits, a digit above 9, or a sequence number above 99
- *    3  the output does not fit from the named place
- *    4  the shape of a script message is wrong
- *    8  the code of a script message differs
- *    9  the format of a PIN block is wrong
- *   12  a PIN to be written is not 4 to 12 digits, or has a digit above 9
- * Where several would hold, the first in the order that the function's comment gives is returned.
+ * Every function returns the number of its refusal, and 0 where it accepts; refusals.h has the numbers with their names and words (box_words).
+ * Where several would hold, the first in the order that the function's comment gives is returned. A digit above 9 is no digit: 2, and 12.
  *
  * A byte string is a pointer and a length. The pointer may be null only where the length is 0. An output is lent by the caller, has exactly
  * the length stated, and does not overlap an input. A refusal leaves every lent byte as it was. No function keeps a pointer, allocates,
@@ -30,6 +23,8 @@
  */
 #ifndef BOX_H
 #define BOX_H
+
+#include "refusals.h"
 
 #include <stddef.h>
 #include <stdint.h>
@@ -60,10 +55,9 @@ uint8_t box_card_key(const uint8_t *issuer, size_t issuer_length, const uint8_t 
 uint8_t box_card_key_packed(const uint8_t *issuer, size_t issuer_length, const uint8_t *pan, size_t pan_length, uint8_t sequence, uint8_t *out, size_t out_length);
 
 /* The card master keys of many cards under one issuer master key of 32 bytes, as box_card_key makes each: the issuer's key is set up once for
- * all. A card is 21 bytes: the
- * number of digits of its card number, nineteen places for them (the values 0 to 9 and not characters; those after the digits may hold anything)
- * and the sequence number (0: none). cards_length is a multiple of 21, and 0 is one. out: 32 bytes a card, in the cards' order. Refusals 1, 2; 2
- * where any card is wrong, and then no key is written. */
+ * all. A card is 21 bytes: the number of digits of its card number, nineteen places for them (the values 0 to 9 and not characters; those
+ * after the digits may hold anything) and the sequence number (0: none). cards_length is a multiple of 21, and 0 is one. out: 32 bytes a
+ * card, in the cards' order. Refusals 1, 2; 2 where any card is wrong, and then no key is written. */
 uint8_t box_card_keys(const uint8_t *issuer, size_t issuer_length, const uint8_t *cards, size_t cards_length, uint8_t *out, size_t out_length);
 
 /* The session key for cryptograms, from the master key AC of 32 bytes and the transaction counter. out: 32. Refusal 1. */

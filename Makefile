@@ -10,7 +10,7 @@ help:
 	@echo 'README.md says what it is, CONTRIBUTING.md how to change it. Times are of two x86-64 cores.'
 
 run:
-	@tools/alone 'make run' sh -c 'tools/prove 5 clerk && tools/show samples/day.trace'
+	@tools/alone 'make run' sh -c 'tools/prove --minutes 5 clerk && tools/show samples/day.trace'
 	@echo 'samples/README.md explains each line; target/bin/clerk is the program, started by: tools/run clerk <TRACE'
 
 test:

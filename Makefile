@@ -1,21 +1,27 @@
-# make run: proves and builds the clerk's program and runs a day at the desk through it.  make test: the whole gate.  make host: the desk's program in C.
-# make bench: the proved code timed beside libgcrypt and nettle (docs/SPEED.md).
-.PHONY: run test host bench clean
+# `make` alone says what there is to make.
+.PHONY: help run test host bench clean
+
+help:
+	@echo 'make run     proves and builds the clerk'"'"'s program and runs a day at the desk through it: 5 minutes from nothing'
+	@echo 'make host    proves the library for C and builds the desk'"'"'s program box over it: 4 minutes from nothing'
+	@echo 'make test    the whole gate, from nothing: 21 to 28 minutes'
+	@echo 'make bench   times the proved code beside libgcrypt and nettle (docs/SPEED.md)'
+	@echo 'make clean   removes what they built'
+	@echo 'README.md says what it is, CONTRIBUTING.md how to change it. Times are of two x86-64 cores.'
 
 run:
-	rt check clerk
-	tools/show samples/day.trace
+	@tools/alone 'make run' sh -c 'tools/prove --minutes 5 clerk && tools/show samples/day.trace'
 	@echo 'samples/README.md explains each line; target/bin/clerk is the program, started by: tools/run clerk <TRACE'
 
 test:
-	.ci/run
+	@.ci/run
 
 host:
-	tools/build-host
-	@echo 'tools/run box --help'
+	@tools/alone 'make host' tools/build-host
+	@echo 'tools/run box --help lists the commands of the desk'"'"'s program'
 
 bench:
-	bench/run
+	@bench/run
 
 clean:
-	rm -rf target
+	@tools/alone 'make clean' rm -rf target

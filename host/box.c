@@ -9,10 +9,11 @@
 #include "box.h"
 
 #include <stdio.h>
+#include <stdlib.h>
 #include <string.h>
 
-/* The longest message: 255 data bytes and 9 more. */
-enum { MESSAGE = 264 };
+/* The longest message: 255 data bytes and 9 more. A card of a list: the count of its digits, nineteen places, the sequence number. */
+enum { MESSAGE = 264, KEY = 32, PLACES = 19, CARD = PLACES + 2 };
 
 static const char help[] =
     "box: keys, codes and scripts of the Mir scheme\n"
@@ -20,6 +21,8 @@ static const char help[] =
     "  box card-key ISSUER-KEY CARD-NUMBER [SEQUENCE]     the card's master key\n"
     "  box card-key-packed ISSUER-KEY CARD-NUMBER [SEQUENCE]\n"
     "                                                     the same, card digits as packed decimal\n"
+    "  box card-keys ISSUER-KEY <LIST                     the master keys of many cards, as card-key gives each, a line for a line;\n"
+    "                                                     a line of the list: CARD-NUMBER, or CARD-NUMBER, a blank and two digits\n"
     "  box session-keys MK-AC MK-SMI MK-SMC COUNTER CRYPTOGRAM\n"
     "                                                     the keys of one transaction: AC, counter key, SMI, SMC\n"
     "  box change-pin SK-SMI SK-SMC PIN                   the script that sets a PIN: its header, then its message\n"
@@ -34,27 +37,19 @@ static const char help[] =
     "Keys (64 digits), headers, tags, data, cryptograms, messages and CSUs are hexadecimal; card numbers, PINs, sequence numbers and\n"
     "lengths are decimal; a transaction counter is four hexadecimal digits.\n";
 
-static const char *in_words(unsigned number) {
-    switch (number) {
-    case 1: return "an input has not the length or range stated";
-    case 2: return "the card number has not 12 to 19 digits, or the sequence number is above 99";
-    case 3: return "the output does not fit";
-    case 4: return "the shape of the message is wrong";
-    case 8: return "the code of the message differs";
-    case 9: return "the format of the PIN block is wrong";
-    case 12: return "the PIN has not 4 to 12 digits";
-    default: return "refused";
-    }
-}
-
 static int refused(unsigned number) {
-    fprintf(stderr, "box: refusal %u: %s\n", number, in_words(number));
+    fprintf(stderr, "box: refusal %u: %s\n", number, box_words(number));
     return 1;
 }
 
 /* The word itself is not repeated: it may be a key or a PIN. */
 static int misused(const char *why) {
     fprintf(stderr, "box: %s (box --help lists the commands)\n", why);
+    return 1;
+}
+
+static int failed(const char *why) {
+    fprintf(stderr, "box: %s\n", why);
     return 1;
 }
 
@@ -118,7 +113,7 @@ static void print(const char *name, const uint8_t *at, size_t length) {
 static int counter_of(const char *word, uint16_t *counter) {
     struct bytes b;
     if (hexadecimal(word, &b)) return 1;
-    if (b.length != 2) return refused(1);
+    if (b.length != 2) return refused(BOX_RANGE);
     *counter = (uint16_t)(b.at[0] * 256 + b.at[1]);
     return 0;
 }
@@ -133,6 +128,106 @@ static int card_key(char **word, int words, int packed) {
     if (r != 0) return refused(r);
     print(NULL, key, sizeof key);
     return 0;
+}
+
+/* Cards as box_card_keys takes them, and the keys that it gives. */
+struct list {
+    uint8_t *cards, *keys;
+    size_t count, room;
+};
+
+/* The line of a list, from 1 on, is told; what stands in it is not. */
+static int refused_at(size_t line, unsigned number) {
+    fprintf(stderr, "box: line %lu: refusal %u: %s\n", (unsigned long)line, number, box_words(number));
+    return 1;
+}
+
+static int misused_at(size_t line) {
+    fprintf(stderr, "box: line %lu: neither a card number nor a card number, a blank and two digits\n", (unsigned long)line);
+    return 1;
+}
+
+/* Room for one card more. */
+static int longer(struct list *list) {
+    uint8_t *cards;
+    size_t room = list->room == 0 ? 1024 : list->room * 2;
+    if (list->count < list->room) return 0;
+    cards = room > SIZE_MAX / KEY ? NULL : realloc(list->cards, room * CARD);
+    if (cards == NULL) return failed("more cards than there is memory for");
+    list->cards = cards;
+    list->room = room;
+    return 0;
+}
+
+/* Decimal digits up to the first other sign, which is left in *sign: how many, the first of them in their places, and their number up to 1,000. */
+static size_t digits(int *sign, uint8_t *places, size_t room, unsigned *value) {
+    size_t n = 0;
+    for (*value = 0; (*sign = getchar()) >= '0' && *sign <= '9'; n++) {
+        unsigned d = (unsigned)(*sign - '0');
+        if (n < room) places[n] = (uint8_t)d;
+        if (*value < 1000) *value = *value * 10 + d;
+    }
+    return n;
+}
+
+/* One line. What is no card by its number of digits, or by a sequence number above 99, is the library's to refuse: it is given a count or a number
+ * that no card has. */
+static int one_card(struct list *list, int *sign) {
+    uint8_t *card;
+    unsigned value;
+    size_t n;
+    if (longer(list)) return 1;
+    card = list->cards + list->count * CARD;
+    memset(card, 0, CARD);
+    n = digits(sign, card + 1, PLACES, &value);
+    if (n == 0) return misused_at(list->count + 1);
+    card[0] = n > PLACES ? PLACES + 1 : (uint8_t)n;
+    if (*sign == ' ') {
+        n = digits(sign, NULL, 0, &value);
+        if (n != 2 && value < 100) return misused_at(list->count + 1);
+        card[CARD - 1] = value < 100 ? (uint8_t)value : 255;
+    }
+    if (*sign != '\n' && *sign != EOF) return misused_at(list->count + 1);
+    list->count++;
+    return 0;
+}
+
+/* The cards of standard input, a line each; a last line without its line feed counts unless it is empty. */
+static int cards_of(struct list *list) {
+    int sign;
+    while ((sign = getchar()) != EOF) {
+        ungetc(sign, stdin);
+        if (one_card(list, &sign)) return 1;
+        if (sign == EOF) break;
+    }
+    return ferror(stdin) ? failed("the list cannot be read") : 0;
+}
+
+/* The library refuses a list whole; the first line that it refuses by itself is the reason. */
+static int keys_of(const struct bytes *issuer, struct list *list) {
+    size_t i;
+    uint8_t r;
+    list->keys = malloc(list->count * KEY + 1);
+    if (list->keys == NULL) return failed("more cards than there is memory for");
+    r = box_card_keys(issuer->at, issuer->length, list->cards, list->count * CARD, list->keys, list->count * KEY);
+    for (i = 0; r == BOX_CARD && i < list->count; i++)
+        if (box_card_keys(issuer->at, issuer->length, list->cards + i * CARD, CARD, list->keys, KEY) == r) return refused_at(i + 1, r);
+    if (r != 0) return refused(r);
+    for (i = 0; i < list->count; i++) print(NULL, list->keys + i * KEY, KEY);
+    return 0;
+}
+
+/* All or nothing: no key is printed where a line is refused. */
+static int card_keys(char **word) {
+    struct bytes issuer;
+    struct list list = {NULL, NULL, 0, 0};
+    int status;
+    if (hexadecimal(word[0], &issuer)) return 1;
+    status = cards_of(&list);
+    if (status == 0) status = keys_of(&issuer, &list);
+    free(list.cards);
+    free(list.keys);
+    return status;
 }
 
 static int session_keys(char **word) {
@@ -178,7 +273,7 @@ static int script(const char *key, uint8_t instruction, uint8_t p2, uint8_t tag,
 static int wrap(char **word) {
     struct bytes smi, header, tag, data;
     if (hexadecimal(word[0], &smi) || hexadecimal(word[1], &header) || hexadecimal(word[2], &tag) || hexadecimal(word[3], &data)) return 1;
-    if (tag.length != 1) return refused(1);
+    if (tag.length != 1) return refused(BOX_RANGE);
     return wrapped(&smi, header.at, header.length, tag.at[0], data.at, data.length);
 }
 
@@ -186,7 +281,7 @@ static int change_pin(char **word) {
     struct bytes smi, smc, pin;
     uint8_t block[8], enciphered[8], r;
     if (hexadecimal(word[0], &smi) || hexadecimal(word[1], &smc) || decimal(word[2], &pin)) return 1;
-    if (smi.length != 32 || smc.length != 32) return refused(1);
+    if (smi.length != 32 || smc.length != 32) return refused(BOX_RANGE);
     r = box_write_pin(pin.at, pin.length, block, sizeof block);
     if (r == 0) r = box_encipher(smc.at, smc.length, block, sizeof block, enciphered, sizeof enciphered);
     if (r != 0) return refused(r);
@@ -219,7 +314,7 @@ static int idn(char **word) {
     uint8_t answer[8], length, r;
     uint16_t counter;
     if (hexadecimal(word[0], &key) || counter_of(word[1], &counter) || number(word[2], &length)) return 1;
-    if (length > sizeof answer) return refused(1);
+    if (length > sizeof answer) return refused(BOX_RANGE);
     r = box_idn(key.at, key.length, counter, answer, length);
     if (r != 0) return refused(r);
     print(NULL, answer, length);
@@ -236,6 +331,7 @@ static int run(int argc, char **argv) {
     }
     if (!strcmp(command, "card-key") && (words == 2 || words == 3)) return card_key(word, words, 0);
     if (!strcmp(command, "card-key-packed") && (words == 2 || words == 3)) return card_key(word, words, 1);
+    if (!strcmp(command, "card-keys") && words == 1) return card_keys(word);
     if (!strcmp(command, "session-keys") && words == 5) return session_keys(word);
     if (!strcmp(command, "change-pin") && words == 3) return change_pin(word);
     if (!strcmp(command, "block") && words == 1) return script(word[0], 0x1e, 0x00, 0x81, NULL, 0);

@@ -1,14 +1,7 @@
 /* The box: keys, codes, PIN blocks, cryptograms and script messages of the Mir scheme, for C and C++.
  *
- * Every function returns the number of its refusal, and 0 where it accepts:
- *    1  an input or a lent output has not the length or range stated
- *    2  card number not of 12 to 19 digits, a digit above 9, or a sequence number above 99
- *    3  the output does not fit from the named place
- *    4  the shape of a script message is wrong
- *    8  the code of a script message differs
- *    9  the format of a PIN block is wrong
- *   12  a PIN to be written is not 4 to 12 digits, or has a digit above 9
- * Where several would hold, the first in the order that the function's comment gives is returned.
+ * Every function returns the number of its refusal, and 0 where it accepts; refusals.h has the numbers with their names and words (box_words).
+ * Where several would hold, the first in the order that the function's comment gives is returned. A digit above 9 is no digit: 2, and 12.
  *
  * A byte string is a pointer and a length. The pointer may be null only where the length is 0. An output is lent by the caller, has exactly
  * the length stated, and does not overlap an input. A refusal leaves every lent byte as it was. No function keeps a pointer, allocates,
@@ -31,6 +24,8 @@
 #ifndef BOX_H
 #define BOX_H
 
+#include "refusals.h"
+
 #include <stddef.h>
 #include <stdint.h>
 
@@ -50,20 +45,22 @@ uint8_t box_code(const uint8_t *key, size_t key_length, const uint8_t *string, s
 /* The key derived from a key of 32 bytes and a seed of 8, under the label of card keys. out: 32. Refusal 1. */
 uint8_t box_derive(const uint8_t *key, size_t key_length, const uint8_t *seed, size_t seed_length, uint8_t *out, size_t out_length);
 
-/* The card master key of an issuer master key of 32 bytes, a card number (one digit a byte, the values 0 to 9 and not characters) and a sequence number (0: none).
- * The seed is made of the last sixteen digits of card number and sequence number, with zero digits before them where there are fewer (card numbers of 12 and 13
- * digits; EMV Book 2, option A). Each pair of digits is one byte of it, its number 0 to 99. out: 32. Refusals 1, 2. */
-uint8_t box_card_key(const uint8_t *issuer, size_t issuer_length, const uint8_t *pan, size_t pan_length, uint8_t sequence, uint8_t *out, size_t out_length);
+/* The card master key of an issuer master key of 32 bytes, a card number (one digit a byte, the values 0 to 9 and not characters) and a
+ * sequence number (0: none). The seed is made of the last sixteen digits of card number and sequence number, with zero digits before
+ * them where there are fewer (card numbers of 12 and 13 digits; EMV Book 2, option A). Each pair of digits is one byte of it, its number
+ * 0 to 99. out: 32. Refusals 1, 2. */
+uint8_t box_card_key(const uint8_t *issuer, size_t issuer_length, const uint8_t *pan, size_t pan_length, uint8_t sequence,
+                     uint8_t *out, size_t out_length);
 
 /* The same with the card digits as packed decimal, for a bank whose host packs them: another key for the same card, and the reading by which
  * the master keys published in R 1323565.1.010 come out (docs/DECISIONS.md, 1). out: 32. Refusals 1, 2. */
-uint8_t box_card_key_packed(const uint8_t *issuer, size_t issuer_length, const uint8_t *pan, size_t pan_length, uint8_t sequence, uint8_t *out, size_t out_length);
+uint8_t box_card_key_packed(const uint8_t *issuer, size_t issuer_length, const uint8_t *pan, size_t pan_length, uint8_t sequence,
+                            uint8_t *out, size_t out_length);
 
 /* The card master keys of many cards under one issuer master key of 32 bytes, as box_card_key makes each: the issuer's key is set up once for
- * all. A card is 21 bytes: the
- * number of digits of its card number, nineteen places for them (the values 0 to 9 and not characters; those after the digits may hold anything)
- * and the sequence number (0: none). cards_length is a multiple of 21, and 0 is one. out: 32 bytes a card, in the cards' order. Refusals 1, 2; 2
- * where any card is wrong, and then no key is written. */
+ * all. A card is 21 bytes: the number of digits of its card number, nineteen places for them (the values 0 to 9 and not characters; those
+ * after the digits may hold anything) and the sequence number (0: none). cards_length is a multiple of 21, and 0 is one. out: 32 bytes a
+ * card, in the cards' order. Refusals 1, 2; 2 where any card is wrong, and then no key is written. */
 uint8_t box_card_keys(const uint8_t *issuer, size_t issuer_length, const uint8_t *cards, size_t cards_length, uint8_t *out, size_t out_length);
 
 /* The session key for cryptograms, from the master key AC of 32 bytes and the transaction counter. out: 32. Refusal 1. */
@@ -86,21 +83,25 @@ uint8_t box_read_pin(const uint8_t *block, size_t block_length, uint8_t *out, si
 
 /* The cryptogram of the 65 data bytes, under the session key for cryptograms of 32 bytes. kind is 0x80 for ARQC, 0x40 for TC, 0x00 for AAC; the
  * counter is written into the data at offsets 31 and 32, the kind into the upper half of offset 36. out: 8. Refusal 1. */
-uint8_t box_cryptogram(const uint8_t *key, size_t key_length, uint8_t kind, uint16_t counter, const uint8_t *data, size_t data_length, uint8_t *out, size_t out_length);
+uint8_t box_cryptogram(const uint8_t *key, size_t key_length, uint8_t kind, uint16_t counter, const uint8_t *data, size_t data_length,
+                       uint8_t *out, size_t out_length);
 
 /* The issuer's answer to a cryptogram of 8 bytes with a CSU of 4, under the session key for cryptograms of 32. out: 8. Refusal 1. */
-uint8_t box_arpc(const uint8_t *key, size_t key_length, const uint8_t *cryptogram, size_t cryptogram_length, const uint8_t *csu, size_t csu_length, uint8_t *out, size_t out_length);
+uint8_t box_arpc(const uint8_t *key, size_t key_length, const uint8_t *cryptogram, size_t cryptogram_length, const uint8_t *csu,
+                 size_t csu_length, uint8_t *out, size_t out_length);
 
 /* A script message under the SMI session key of 32 bytes and the command's header of 4 (class, instruction, two parameters): tag 0x87 for
  * enciphered data or 0x81 for clear, up to 255 data bytes as given. It is written into the buffer from the place on; every other byte of
  * the buffer stays. Its size is data_length + 8 up to 127 data bytes, whose length takes one byte, and data_length + 9 from 128 on, whose
  * length takes two, 81 first: 264 at most. The function does not return it. Refusals 1 (more than 255 data bytes too), 3. */
-uint8_t box_wrap(const uint8_t *key, size_t key_length, const uint8_t *header, size_t header_length, uint8_t tag, const uint8_t *data, size_t data_length, uint8_t *buffer, size_t buffer_length, size_t place);
+uint8_t box_wrap(const uint8_t *key, size_t key_length, const uint8_t *header, size_t header_length, uint8_t tag, const uint8_t *data,
+                 size_t data_length, uint8_t *buffer, size_t buffer_length, size_t place);
 
 /* A script message, with nothing after it, opened under the SMI session key of 32 bytes and the header of 4. found: 3, the tag, the place of the
  * data in the message (2, or 3 where there are 128 and more) and their length (0 to 255), one byte each. A length in any other form than
  * that of box_wrap is a wrong shape. Refusals 1, 4, 8. */
-uint8_t box_open(const uint8_t *key, size_t key_length, const uint8_t *header, size_t header_length, const uint8_t *message, size_t message_length, uint8_t *found, size_t found_length);
+uint8_t box_open(const uint8_t *key, size_t key_length, const uint8_t *header, size_t header_length, const uint8_t *message,
+                 size_t message_length, uint8_t *found, size_t found_length);
 
 #ifdef __cplusplus
 }

@@ -10,7 +10,7 @@
 #include <stdlib.h>
 #include <string.h>
 
-enum { CANARY = 0xc5, MARGIN = 24, WORDS = 12, ARGUMENTS = 6, NUMBERS = 13, LONGEST = 1 << 20 };
+enum { CANARY = 0xc5, MARGIN = 24, WORDS = 12, ARGUMENTS = 6, NUMBERS = BOX_REFUSALS_END, LONGEST = 1 << 20 };
 
 static unsigned long line_number;
 
@@ -189,22 +189,31 @@ static int came(size_t i) {
     return 0;
 }
 
+/* Whether some function gives a number: the columns of the table. */
+static int column(int number) {
+    size_t i;
+    for (i = 0; i < FUNCTIONS; i++)
+        if (named(&functions[i], number)) return 1;
+    return 0;
+}
+
 /* The table, of the functions that were called or of all; returns how many numbers that box.h names never came. */
 static int report(int all) {
-    static const int columns[] = {0, 1, 2, 3, 4, 8, 9, 12};
-    size_t i, j;
-    int missing = 0;
+    size_t i;
+    int number, missing = 0;
     printf("%-20s", "");
-    for (j = 0; j < sizeof columns / sizeof columns[0]; j++) printf("%6d", columns[j]);
+    for (number = 0; number < NUMBERS; number++)
+        if (column(number)) printf("%6d", number);
     printf("\n");
     for (i = 0; i < FUNCTIONS; i++) {
         if (!all && !came(i)) continue;
         printf("%-20s", functions[i].name);
-        for (j = 0; j < sizeof columns / sizeof columns[0]; j++) {
-            unsigned long count = counts[i][columns[j]];
+        for (number = 0; number < NUMBERS; number++) {
+            unsigned long count = counts[i][number];
+            if (!column(number)) continue;
             if (count > 0) printf("%6lu", count);
-            else printf("%6s", all && named(&functions[i], columns[j]) ? "NONE" : "");
-            missing += count == 0 && named(&functions[i], columns[j]);
+            else printf("%6s", all && named(&functions[i], number) ? "NONE" : "");
+            missing += count == 0 && named(&functions[i], number);
         }
         printf("\n");
     }

@@ -6,7 +6,6 @@
 
 use std::fs::{remove_file, File};
 use std::io::{self, BufRead, BufReader, Read, Seek, Write};
-use std::os::unix::process::CommandExt;
 use std::process::{Child, ChildStdin, Command, Stdio};
 use std::sync::atomic::{AtomicBool, AtomicUsize, Ordering};
 use std::sync::mpsc::{channel, Receiver, RecvTimeoutError};
@@ -93,9 +92,9 @@ pub struct Peer<'a> {
 }
 
 impl Peer<'_> {
-    /// In a process group of its own, so that all of it can be ended.
+    /// In a process group of its own, so that all of it can be ended. setsid becomes the program, so the group has the child's number.
     fn start(&self, stdin: Stdio) -> io::Result<Child> {
-        Command::new(self.command[0]).args(&self.command[1..]).stdin(stdin).stdout(Stdio::piped()).process_group(0).spawn()
+        Command::new("setsid").args(self.command).stdin(stdin).stdout(Stdio::piped()).spawn()
     }
 
     /// What the peer answers; a status other than 0 is one more line, and so is an end that did not come in time.
@@ -277,7 +276,10 @@ fn first_difference(peer: &Peer, jobs: &[Job]) -> io::Result<Option<usize>> {
     let work = || -> io::Result<()> {
         loop {
             let i = next.fetch_add(1, Ordering::SeqCst);
-            let Some(job) = jobs.get(i) else { return Ok(()) };
+            let job = match jobs.get(i) {
+                Some(job) => job,
+                None => return Ok(()),
+            };
             if found.lock().expect("no panic").is_some() {
                 return Ok(());
             }

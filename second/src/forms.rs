@@ -43,7 +43,10 @@ impl Form {
 
     fn made(&self, key: &Key, header: &Header, message: &[u8]) -> bool {
         let place = 2 + self.before.len();
-        let Some(data) = message.get(place..message.len().saturating_sub(6)) else { return false };
+        let data = match message.get(place..message.len().saturating_sub(6)) {
+            Some(data) => data,
+            None => return false,
+        };
         let tag = message[0];
         self.takes(data.len()) && [ENCIPHERED, CLEAR].contains(&tag) && coded(key, header, tag, &self.field(data.len()), data) == message
     }

@@ -455,7 +455,7 @@ impl Clerk {
 
     /// A line that could stand here.
     fn plain(&mut self) -> Line {
-        let open = self.run.record.as_ref().is_some_and(Record::is_open);
+        let open = self.run.record.as_ref().map_or(false, Record::is_open);
         match self.random.below(5) {
             0 => self.open(),
             1 if open => self.good_script(),
@@ -524,7 +524,7 @@ impl Clerk {
     /// 537 to 541 digits, or 279 to 283, where the edge was before Wish 1. The 538 of a script with the most data are a frame like any other, and so
     /// are the 280 with the most that have a length of one byte.
     fn line_at_the_edge(&mut self) -> Line {
-        let open = self.run.record.as_ref().is_some_and(Record::is_open);
+        let open = self.run.record.as_ref().map_or(false, Record::is_open);
         let key = if open { self.smi() } else { [0; 32] };
         let header = self.command().header();
         let (length, edge) = self.random.choose(&[(LARGEST, LONGEST), (LARGEST, LONGEST), (LARGEST_SHORT, 280)]);

@@ -70,9 +70,12 @@ fn run_trace() -> io::Result<ExitCode> {
 }
 
 fn run_slip(name: &str) -> io::Result<ExitCode> {
-    let Some((_, slip)) = slips::SLIPS.iter().find(|(known, _)| *known == name) else {
-        eprintln!("second: no such slip: {name}");
-        return Ok(ExitCode::from(2));
+    let slip = match slips::SLIPS.iter().find(|(known, _)| *known == name) {
+        Some((_, slip)) => slip,
+        None => {
+            eprintln!("second: no such slip: {name}");
+            return Ok(ExitCode::from(2));
+        }
     };
     let mut clerk = slips::Slipping::new(*slip);
     trace::run(slips::input(*slip, io::stdin().lock()), io::stdout().lock(), |line| clerk.answer(line))?;

@@ -222,7 +222,10 @@ mod tests {
 
     /// The rule before Wish 1.
     fn old_shape(message: &[u8]) -> Result<Opened, Refusal> {
-        let [tag, length, ..] = *message else { return Err(Refusal::Shape) };
+        let (tag, length) = match *message {
+            [tag, length, ..] => (tag, length),
+            _ => return Err(Refusal::Shape),
+        };
         let length = usize::from(length);
         let good = known(tag) && length <= 127 && message.len() == length + 8 && message[2 + length..4 + length] == [0x8e, 0x04];
         if good {

@@ -1,33 +1,33 @@
-//! The numbered refusals of paper 01.
+//! The numbered refusals of paper 01. tests/refusals holds names, numbers and words to include/refusals.h.
 
 #[derive(Clone, Copy, Debug, PartialEq, Eq)]
 #[repr(u8)]
 pub enum Refusal {
-    /// An input or number that no other row names has not the length or range stated.
+    /// An input has not the length or range stated.
     Range = 1,
-    /// Card number not of 12 to 19 digits, or sequence number above 99.
+    /// The card number is not 12 to 19 digits, or the sequence number is above 99.
     Card = 2,
     /// The output does not fit from the named place.
     Room = 3,
-    /// The shape of a script message is wrong.
+    /// The shape of the message is wrong.
     Shape = 4,
-    /// Class, instruction, parameters, tag or length are not those of a listed command.
+    /// Header, tag and length are of no listed command.
     Command = 5,
-    /// The call does not belong to this phase.
+    /// Not a call of this phase, or no record yet.
     Phase = 6,
     /// A counter stands at 65535.
     Counter = 7,
-    /// The code of a script message differs.
+    /// The code of the message differs.
     Code = 8,
-    /// The format of a PIN block is wrong.
+    /// The format of the PIN block is wrong.
     PinFormat = 9,
-    /// Close of a spoilt transaction.
+    /// The transaction was spoilt, and nothing of it is kept.
     Spoilt = 10,
-    /// The issuer's answer differs.
+    /// The ARPC differs.
     Arpc = 11,
-    /// A PIN to be written is not of 4 to 12 digits.
+    /// The PIN is not 4 to 12 digits.
     PinDigits = 12,
-    /// A trace line cannot be read.
+    /// The line cannot be read.
     Line = 13,
 }
 

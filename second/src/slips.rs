@@ -80,8 +80,8 @@ impl Slipping {
         let header = std::array::from_fn(|i| frame[1 + i]);
         let form = form_of(&script_key(&before.smi, &before.cryptogram), &header, &frame[5..]);
         match self.slip {
-            Slip::ShortForm if form.is_some_and(|form| form.before == [0x81]) && frame[7] == 0x7f => Err(Refusal::Command),
-            Slip::LongAsOne if form.is_some_and(|form| form.before.is_empty()) => Err(Refusal::Command),
+            Slip::ShortForm if form.map_or(false, |form| form.before == [0x81]) && frame[7] == 0x7f => Err(Refusal::Command),
+            Slip::LongAsOne if form.map_or(false, |form| form.before.is_empty()) => Err(Refusal::Command),
             Slip::SizeAsByte if frame.len() > 256 => {
                 let mut run = Run { record: Some(before) };
                 let accepted = run.answer(&line[..line.len() - 512]).map_err(|_| Refusal::Shape)?;
@@ -93,7 +93,10 @@ impl Slipping {
     }
 
     fn slip(&mut self, before: &Record, first: u8, number: u8) {
-        let Some(after) = self.run.record.as_mut() else { return };
+        let after = match self.run.record.as_mut() {
+            Some(after) => after,
+            None => return,
+        };
         match (self.slip, first, number) {
             (Slip::FailureLowered, 3, 0) => after.counters.failure = after.counters.failure.wrapping_sub(1),
             (Slip::FailuresDropped, 1, 0) => self.failures = after.counters.failure,

@@ -221,7 +221,7 @@ impl Tally {
         self.last = (frame[0], number);
         match frame[0] {
             3 if number == 0 => self.command = command_of(frame),
-            _ if !self.run.record.as_ref().is_some_and(Record::is_open) => self.command = None,
+            _ if !self.run.record.as_ref().map_or(false, Record::is_open) => self.command = None,
             _ => {}
         }
     }
@@ -229,7 +229,10 @@ impl Tally {
     /// Why a frame got its number; a frame may have several causes to count.
     fn causes_of(&self, before: &Run, frame: &[u8], answer: &Answered) -> Vec<String> {
         let number = number_of(answer);
-        let Some(record) = &before.record else { return causes_early(frame, number) };
+        let record = match &before.record {
+            Some(record) => record,
+            None => return causes_early(frame, number),
+        };
         let open = record.is_open();
         let phase = if record.phase == Phase::Aac { "AAC" } else { "ARQC" };
         let text = |cause: &str| vec![cause.to_string()];
@@ -382,7 +385,7 @@ fn faults(line: &[u8]) -> BTreeSet<&'static str> {
         faults.insert("more than 538 digits");
     }
     let first = line.get(..2).and_then(from_hex);
-    if first.is_some_and(|first| first[0] > LAST_FRAME) {
+    if first.map_or(false, |first| first[0] > LAST_FRAME) {
         faults.insert("first byte above 06");
     }
     faults
@@ -412,7 +415,7 @@ fn causes_early(frame: &[u8], number: u8) -> Vec<String> {
 fn personalise_fault(frame: &[u8]) -> &'static str {
     let block: Result<[u8; 8], _> = frame[frame.len().saturating_sub(8)..].try_into();
     match frame.len() {
-        116 if block.is_ok_and(|block| crate::pin::read(&block).is_err()) => "mark, and PIN block wrong",
+        116 if block.map_or(false, |block| crate::pin::read(&block).is_err()) => "mark, and PIN block wrong",
         116 => "mark",
         _ => "length",
     }
@@ -461,7 +464,7 @@ fn causes_of_length(record: &Record, frame: &[u8]) -> Vec<String> {
         causes.push(format!("{} data bytes, {code}", opened.length));
     }
     let less = opened.length.checked_sub(128).map(|length| Opened { length, ..opened });
-    if less.is_some_and(|less| Command::of(&header, &less).is_ok()) {
+    if less.map_or(false, |less| Command::of(&header, &less).is_ok()) {
         causes.push(format!("listed but for 128 data bytes more, {code}"));
     }
     causes

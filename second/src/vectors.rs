@@ -42,7 +42,10 @@ fn value(operation: &str, inputs: &[Vec<u8>]) -> Result<Vec<u8>, Refusal> {
 /// The answer to one line.
 pub fn answer(line: &str) -> String {
     let words: Vec<&str> = line.split(' ').collect();
-    let [document, clause, operation, inputs @ ..] = &words[..] else { return format!("not a vector: {line}") };
+    let (document, clause, operation, inputs) = match &words[..] {
+        [document, clause, operation, inputs @ ..] => (document, clause, operation, inputs),
+        _ => return format!("not a vector: {line}"),
+    };
     let inputs: Option<Vec<Vec<u8>>> = inputs.iter().map(|digits| from_hex(digits.as_bytes())).collect();
     let result = inputs.map_or(Err(Refusal::Line), |inputs| value(operation, &inputs));
     match result {

@@ -113,7 +113,7 @@ static void print(const char *name, const uint8_t *at, size_t length) {
 static int counter_of(const char *word, uint16_t *counter) {
     struct bytes b;
     if (hexadecimal(word, &b)) return 1;
-    if (b.length != 2) return refused(BOX_RANGE);
+    if (b.length != 2) return refused(BOX_INPUT);
     *counter = (uint16_t)(b.at[0] * 256 + b.at[1]);
     return 0;
 }
@@ -210,7 +210,7 @@ static int keys_of(const struct bytes *issuer, struct list *list) {
     list->keys = malloc(list->count * KEY + 1);
     if (list->keys == NULL) return failed("more cards than there is memory for");
     r = box_card_keys(issuer->at, issuer->length, list->cards, list->count * CARD, list->keys, list->count * KEY);
-    for (i = 0; r == BOX_CARD && i < list->count; i++)
+    for (i = 0; r == BOX_CARD_NUMBER && i < list->count; i++)
         if (box_card_keys(issuer->at, issuer->length, list->cards + i * CARD, CARD, list->keys, KEY) == r) return refused_at(i + 1, r);
     if (r != 0) return refused(r);
     for (i = 0; i < list->count; i++) print(NULL, list->keys + i * KEY, KEY);
@@ -273,7 +273,7 @@ static int script(const char *key, uint8_t instruction, uint8_t p2, uint8_t tag,
 static int wrap(char **word) {
     struct bytes smi, header, tag, data;
     if (hexadecimal(word[0], &smi) || hexadecimal(word[1], &header) || hexadecimal(word[2], &tag) || hexadecimal(word[3], &data)) return 1;
-    if (tag.length != 1) return refused(BOX_RANGE);
+    if (tag.length != 1) return refused(BOX_INPUT);
     return wrapped(&smi, header.at, header.length, tag.at[0], data.at, data.length);
 }
 
@@ -281,7 +281,7 @@ static int change_pin(char **word) {
     struct bytes smi, smc, pin;
     uint8_t block[8], enciphered[8], r;
     if (hexadecimal(word[0], &smi) || hexadecimal(word[1], &smc) || decimal(word[2], &pin)) return 1;
-    if (smi.length != 32 || smc.length != 32) return refused(BOX_RANGE);
+    if (smi.length != 32 || smc.length != 32) return refused(BOX_INPUT);
     r = box_write_pin(pin.at, pin.length, block, sizeof block);
     if (r == 0) r = box_encipher(smc.at, smc.length, block, sizeof block, enciphered, sizeof enciphered);
     if (r != 0) return refused(r);
@@ -314,7 +314,7 @@ static int idn(char **word) {
     uint8_t answer[8], length, r;
     uint16_t counter;
     if (hexadecimal(word[0], &key) || counter_of(word[1], &counter) || number(word[2], &length)) return 1;
-    if (length > sizeof answer) return refused(BOX_RANGE);
+    if (length > sizeof answer) return refused(BOX_INPUT);
     r = box_idn(key.at, key.length, counter, answer, length);
     if (r != 0) return refused(r);
     print(NULL, answer, length);

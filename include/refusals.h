@@ -7,19 +7,19 @@
 #define BOX_REFUSALS_H
 
 #define BOX_REFUSALS(ROW) \
-    ROW(1, BOX_RANGE, "an input has not the length or range stated") \
-    ROW(2, BOX_CARD, "the card number is not 12 to 19 digits, or the sequence number is above 99") \
-    ROW(3, BOX_ROOM, "the output does not fit from the named place") \
-    ROW(4, BOX_SHAPE, "the shape of the message is wrong") \
-    ROW(5, BOX_COMMAND, "header, tag and length are of no listed command") \
-    ROW(6, BOX_PHASE, "not a call of this phase, or no record yet") \
-    ROW(7, BOX_COUNTER, "a counter stands at 65535") \
-    ROW(8, BOX_CODE, "the code of the message differs") \
+    ROW(1, BOX_INPUT, "an input has not the length or range stated") \
+    ROW(2, BOX_CARD_NUMBER, "the card number is not 12 to 19 digits, or the sequence number is above 99") \
+    ROW(3, BOX_NO_ROOM, "the output does not fit from the named place") \
+    ROW(4, BOX_SHAPE_WRONG, "the shape of the message is wrong") \
+    ROW(5, BOX_NOT_LISTED, "header, tag and length are of no listed command") \
+    ROW(6, BOX_PHASE_WRONG, "not a call of this phase, or no record yet") \
+    ROW(7, BOX_COUNTER_FULL, "a counter stands at 65535") \
+    ROW(8, BOX_CODE_DIFFERS, "the code of the message differs") \
     ROW(9, BOX_PIN_FORMAT, "the format of the PIN block is wrong") \
-    ROW(10, BOX_SPOILT, "the transaction was spoilt, and nothing of it is kept") \
-    ROW(11, BOX_ARPC, "the ARPC differs") \
+    ROW(10, BOX_SPOILT_CLOSED, "the transaction was spoilt, and nothing of it is kept") \
+    ROW(11, BOX_ARPC_DIFFERS, "the ARPC differs") \
     ROW(12, BOX_PIN_DIGITS, "the PIN is not 4 to 12 digits") \
-    ROW(13, BOX_LINE, "the line cannot be read")
+    ROW(13, BOX_UNREADABLE, "the line cannot be read")
 
 #define BOX_NAMED(number, name, words) name = number,
 enum box_refusal {

@@ -92,7 +92,7 @@ impl Given<'_> {
 
 /// What a call writes over its lent output, which must have that length.
 fn value(name: &str, given: &Given, room: usize) -> Result<Vec<u8>, Refusal> {
-    let fits = |length: usize| if room == length { Ok(()) } else { Err(Refusal::Range) };
+    let fits = |length: usize| if room == length { Ok(()) } else { Err(Refusal::Input) };
     match name {
         "box_encipher" => fits(8).and(Ok(encipher(&given.array(0)?, &given.array(1)?).to_vec())),
         "box_decipher" => fits(8).and(Ok(decipher(&given.array(0)?, &given.array(1)?).to_vec())),
@@ -107,12 +107,12 @@ fn value(name: &str, given: &Given, room: usize) -> Result<Vec<u8>, Refusal> {
         "box_card_keys" => {
             let (issuer, cards) = (given.array(0)?, given.text(1).chunks_exact(21));
             if !cards.remainder().is_empty() {
-                return Err(Refusal::Range);
+                return Err(Refusal::Input);
             }
             fits(32 * cards.len())?;
             let mut keys = Vec::new();
             for card in cards {
-                let pan = card[1..20].get(..card[0] as usize).ok_or(Refusal::Card)?;
+                let pan = card[1..20].get(..card[0] as usize).ok_or(Refusal::CardNumber)?;
                 keys.extend(card_key(&issuer, pan, card[20])?);
             }
             Ok(keys)
@@ -132,7 +132,7 @@ fn value(name: &str, given: &Given, room: usize) -> Result<Vec<u8>, Refusal> {
             Ok([&[pin.count], &pin.places[..]].concat())
         }
         "box_cryptogram" => {
-            let kind = Kind::of_byte(given.byte(1)).ok_or(Refusal::Range)?;
+            let kind = Kind::of_byte(given.byte(1)).ok_or(Refusal::Input)?;
             fits(8).and(Ok(cryptogram(&given.array(0)?, kind, given.counter(2), &given.array(3)?).to_vec()))
         }
         "box_arpc" => fits(8).and(Ok(arpc(&given.array(0)?, &given.array(1)?, &given.array(2)?).to_vec())),

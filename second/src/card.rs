@@ -93,7 +93,7 @@ impl Record {
         if self.sound() {
             Ok(())
         } else {
-            Err(Refusal::Range)
+            Err(Refusal::Input)
         }
     }
 
@@ -102,7 +102,7 @@ impl Record {
         if self.is_open() {
             Ok(())
         } else {
-            Err(Refusal::Phase)
+            Err(Refusal::PhaseWrong)
         }
     }
 
@@ -115,11 +115,11 @@ impl Record {
     fn try_open(&mut self, data: &[u8]) -> Result<Answer, Refusal> {
         self.check_sound()?;
         if self.is_open() {
-            return Err(Refusal::Phase);
+            return Err(Refusal::PhaseWrong);
         }
         let data = exact::<65>(data)?;
         if self.transaction_counter == u16::MAX || self.counters.session == u16::MAX {
-            return Err(Refusal::Counter);
+            return Err(Refusal::CounterFull);
         }
         self.transaction_counter += 1;
         self.counters.session += 1;
@@ -139,12 +139,12 @@ impl Record {
     fn try_issuer_answer(&mut self, answer: &[u8], csu: &[u8]) -> Result<(), Refusal> {
         self.check_open()?;
         if self.phase == Phase::Aac {
-            return Err(Refusal::Phase);
+            return Err(Refusal::PhaseWrong);
         }
         let (answer, csu) = (exact::<8>(answer)?, exact::<4>(csu)?);
         let key = session_key(&self.ac, self.transaction_counter);
         if arpc(&key, &self.cryptogram, &csu) != answer {
-            return Err(Refusal::Arpc);
+            return Err(Refusal::ArpcDiffers);
         }
         self.counters.session = 0;
         Ok(())
@@ -175,10 +175,10 @@ impl Record {
 
     /// A fresh SMI key is counted, and uncounted on a match (R 1323565.1.008, clause 4.1.2); at 65535 it cannot be counted.
     fn count_key(&mut self, header: &[u8; 4], message: &[u8]) -> Result<(), Refusal> {
-        self.counters.failure = self.counters.failure.checked_add(1).ok_or(Refusal::Counter)?;
+        self.counters.failure = self.counters.failure.checked_add(1).ok_or(Refusal::CounterFull)?;
         let key = script_key(&self.smi, &self.cryptogram);
         if !code_matches(&key, header, message) {
-            return Err(Refusal::Code);
+            return Err(Refusal::CodeDiffers);
         }
         self.counters.failure -= 1;
         Ok(())
@@ -194,7 +194,7 @@ impl Record {
         if let Err(refusal) = self.check_open() {
             return (self, Err(refusal));
         }
-        let result = if self.spoilt { Err(Refusal::Spoilt) } else { Ok(()) };
+        let result = if self.spoilt { Err(Refusal::SpoiltClosed) } else { Ok(()) };
         if result.is_ok() {
             self.keep_pending();
         }
@@ -299,14 +299,14 @@ mod tests {
             assert!(!record.sound());
             let message = message_for(&record, Command::Block, &[]);
             let header = Command::Block.header();
-            assert_eq!(record.clone().open(&[0; 65]), (record.clone(), Err(Refusal::Range)));
-            assert_eq!(record.clone().open(&[0; 64]), (record.clone(), Err(Refusal::Range)));
-            assert_eq!(record.clone().issuer_answer(&[0; 8], &[0; 4]), (record.clone(), Err(Refusal::Range)));
-            assert_eq!(record.clone().script(&header, &message), (record.clone(), Err(Refusal::Range)));
-            assert_eq!(record.clone().script(&[], &[]), (record.clone(), Err(Refusal::Range)));
-            assert_eq!(record.clone().close(), (record.clone(), Err(Refusal::Range)));
-            assert_eq!(record.clone().withdraw(), (record.clone(), Err(Refusal::Range)));
-            assert_eq!(record.clone().counters(), (record.clone(), Err(Refusal::Range)));
+            assert_eq!(record.clone().open(&[0; 65]), (record.clone(), Err(Refusal::Input)));
+            assert_eq!(record.clone().open(&[0; 64]), (record.clone(), Err(Refusal::Input)));
+            assert_eq!(record.clone().issuer_answer(&[0; 8], &[0; 4]), (record.clone(), Err(Refusal::Input)));
+            assert_eq!(record.clone().script(&header, &message), (record.clone(), Err(Refusal::Input)));
+            assert_eq!(record.clone().script(&[], &[]), (record.clone(), Err(Refusal::Input)));
+            assert_eq!(record.clone().close(), (record.clone(), Err(Refusal::Input)));
+            assert_eq!(record.clone().withdraw(), (record.clone(), Err(Refusal::Input)));
+            assert_eq!(record.clone().counters(), (record.clone(), Err(Refusal::Input)));
         }
     }
 
@@ -322,14 +322,14 @@ mod tests {
     fn opening() {
         let record = opened();
         assert_eq!((record.transaction_counter, record.counters.session, record.phase), (8, 2, Phase::Arqc));
-        assert_eq!(record.clone().open(&[0; 65]), (record.clone(), Err(Refusal::Phase)));
-        assert_eq!(record.clone().open(&[]), (record, Err(Refusal::Phase)));
-        assert_eq!(fresh().open(&[0; 64]), (fresh(), Err(Refusal::Range)));
-        assert_eq!(fresh().open(&[0; 66]), (fresh(), Err(Refusal::Range)));
+        assert_eq!(record.clone().open(&[0; 65]), (record.clone(), Err(Refusal::PhaseWrong)));
+        assert_eq!(record.clone().open(&[]), (record, Err(Refusal::PhaseWrong)));
+        assert_eq!(fresh().open(&[0; 64]), (fresh(), Err(Refusal::Input)));
+        assert_eq!(fresh().open(&[0; 66]), (fresh(), Err(Refusal::Input)));
         let session = Counters { session: u16::MAX, ..fresh().counters };
         for full in [Record { transaction_counter: u16::MAX, ..fresh() }, Record { counters: session, ..fresh() }] {
-            assert_eq!(full.clone().open(&[0; 65]), (full.clone(), Err(Refusal::Counter)));
-            assert_eq!(full.clone().open(&[0; 64]), (full, Err(Refusal::Range)));
+            assert_eq!(full.clone().open(&[0; 65]), (full.clone(), Err(Refusal::CounterFull)));
+            assert_eq!(full.clone().open(&[0; 64]), (full, Err(Refusal::Input)));
         }
         let (blocked, answer) = Record { blocked: true, ..fresh() }.open(&[0; 65]);
         assert_eq!((answer.unwrap().kind, blocked.phase, blocked.counters.session), (Kind::Aac, Phase::Aac, 2));
@@ -361,13 +361,13 @@ mod tests {
         for place in 0..8 {
             let mut wrong = good;
             wrong[place] ^= 1;
-            assert_eq!(record.clone().issuer_answer(&wrong, &[9; 4]), (record.clone(), Err(Refusal::Arpc)));
+            assert_eq!(record.clone().issuer_answer(&wrong, &[9; 4]), (record.clone(), Err(Refusal::ArpcDiffers)));
         }
-        assert_eq!(record.clone().issuer_answer(&good[..7], &[9; 4]), (record.clone(), Err(Refusal::Range)));
-        assert_eq!(record.clone().issuer_answer(&good, &[9; 5]), (record, Err(Refusal::Range)));
-        assert_eq!(fresh().issuer_answer(&[], &[]), (fresh(), Err(Refusal::Phase)));
+        assert_eq!(record.clone().issuer_answer(&good[..7], &[9; 4]), (record.clone(), Err(Refusal::Input)));
+        assert_eq!(record.clone().issuer_answer(&good, &[9; 5]), (record, Err(Refusal::Input)));
+        assert_eq!(fresh().issuer_answer(&[], &[]), (fresh(), Err(Refusal::PhaseWrong)));
         let (aac, _) = Record { blocked: true, ..fresh() }.open(&[0; 65]);
-        assert_eq!(aac.clone().issuer_answer(&[], &[]), (aac, Err(Refusal::Phase)));
+        assert_eq!(aac.clone().issuer_answer(&[], &[]), (aac, Err(Refusal::PhaseWrong)));
     }
 
     #[test]
@@ -376,15 +376,15 @@ mod tests {
         let full = Record { counters: Counters { failure: u16::MAX, ..record.counters }, ..record.clone() };
         let good = message_for(&record, Command::Block, &[]);
         let block = Command::Block.header();
-        assert_eq!(fresh().script(&block, &good), (fresh(), Err(Refusal::Phase)));
-        assert_eq!(fresh().script(&[], &[]), (fresh(), Err(Refusal::Phase)));
-        spoils(&record, &block[..3], &good, Refusal::Range);
-        spoils(&record, &[], &[], Refusal::Range);
-        spoils(&record, &block, &[], Refusal::Shape);
-        spoils(&record, &[0; 4], &good[..7], Refusal::Shape);
-        spoils(&full, &[0; 4], &good, Refusal::Command);
-        spoils(&full, &block, &good, Refusal::Counter);
-        spoils(&full, &block, &[&good[..4], &[0; 4]].concat(), Refusal::Counter);
+        assert_eq!(fresh().script(&block, &good), (fresh(), Err(Refusal::PhaseWrong)));
+        assert_eq!(fresh().script(&[], &[]), (fresh(), Err(Refusal::PhaseWrong)));
+        spoils(&record, &block[..3], &good, Refusal::Input);
+        spoils(&record, &[], &[], Refusal::Input);
+        spoils(&record, &block, &[], Refusal::ShapeWrong);
+        spoils(&record, &[0; 4], &good[..7], Refusal::ShapeWrong);
+        spoils(&full, &[0; 4], &good, Refusal::NotListed);
+        spoils(&full, &block, &good, Refusal::CounterFull);
+        spoils(&full, &block, &[&good[..4], &[0; 4]].concat(), Refusal::CounterFull);
     }
 
     #[test]
@@ -396,11 +396,11 @@ mod tests {
                 let mut header = command.header();
                 header[place] ^= 0x40;
                 let message = wrapped(&key, &header, command.tag(), &vec![0; command.length()]).unwrap();
-                spoils(&record, &header, &message, Refusal::Command);
+                spoils(&record, &header, &message, Refusal::NotListed);
             }
             for (tag, length) in [(ENCIPHERED, 0), (CLEAR, 8), (command.tag(), command.length() + 1), (command.tag(), command.length() + 128)] {
                 let message = wrapped(&key, &command.header(), tag, &vec![0; length]).unwrap();
-                spoils(&record, &command.header(), &message, Refusal::Command);
+                spoils(&record, &command.header(), &message, Refusal::NotListed);
             }
         }
     }
@@ -415,7 +415,7 @@ mod tests {
             for before in [&[0x81][..], &[0x82, 0x00], &[0x81, 0x80]] {
                 let field = [before, &[data.len() as u8]].concat();
                 let message = coded(&key, &command.header(), command.tag(), &field, &data);
-                spoils(&record, &command.header(), &message, Refusal::Shape);
+                spoils(&record, &command.header(), &message, Refusal::ShapeWrong);
             }
         }
     }
@@ -426,7 +426,7 @@ mod tests {
         let mut message = message_for(&record, Command::ChangePin, &[1, 1, 1, 1]);
         message[15] ^= 1;
         let (after, result) = record.clone().script(&Command::ChangePin.header(), &message);
-        assert_eq!(result, Err(Refusal::Code));
+        assert_eq!(result, Err(Refusal::CodeDiffers));
         let counted = Counters { failure: 3, ..record.counters };
         assert_eq!(after, Record { counters: counted, spoilt: true, ..record.clone() });
         let key = script_key(&record.smi, &record.cryptogram);
@@ -456,10 +456,10 @@ mod tests {
         let (record, _) = record.script(&[], &[]);
         let record = accept(record, Command::Block, &[]);
         let (closed, result) = record.close();
-        assert_eq!(result, Err(Refusal::Spoilt));
+        assert_eq!(result, Err(Refusal::SpoiltClosed));
         let counters = Counters { session: 2, ..fresh().counters };
         assert_eq!(closed, Record { transaction_counter: 8, counters, ..fresh() });
-        assert_eq!(fresh().close(), (fresh(), Err(Refusal::Phase)));
+        assert_eq!(fresh().close(), (fresh(), Err(Refusal::PhaseWrong)));
     }
 
     #[test]
@@ -477,7 +477,7 @@ mod tests {
 
     #[test]
     fn counters_in_an_open_transaction() {
-        assert_eq!(fresh().counters(), (fresh(), Err(Refusal::Phase)));
+        assert_eq!(fresh().counters(), (fresh(), Err(Refusal::PhaseWrong)));
         let (aac, _) = Record { blocked: true, ..fresh() }.open(&[0; 65]);
         for record in [opened(), Record { spoilt: true, ..opened() }, aac] {
             let (after, block) = record.clone().counters();

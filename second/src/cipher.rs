@@ -78,7 +78,7 @@ pub fn decipher(key: &Key, block: &Block) -> Block {
 pub fn code(key: &Key, string: &[u8]) -> Result<[u8; 4], Refusal> {
     let blocks = string.chunks_exact(8);
     if string.is_empty() || !blocks.remainder().is_empty() {
-        return Err(Refusal::Range);
+        return Err(Refusal::Input);
     }
     let x = subkeys(key);
     let end = blocks.fold(Halves { n1: 0, n2: 0 }, |state, block| {
@@ -105,7 +105,7 @@ mod tests {
     #[test]
     fn the_code_takes_whole_blocks() {
         for length in 0..40 {
-            let refused = code(&[7; 32], &vec![0; length]) == Err(Refusal::Range);
+            let refused = code(&[7; 32], &vec![0; length]) == Err(Refusal::Input);
             assert_eq!(refused, length == 0 || length % 8 != 0);
         }
     }

@@ -71,7 +71,7 @@ mod tests {
         for form in &FORMS {
             for length in form.from..=form.to {
                 let mut message = coded(&KEY, &HEADER, CLEAR, &form.field(length), &vec![0x5a; length]);
-                assert_eq!(open(&KEY, &HEADER, &message), Err(Refusal::Shape));
+                assert_eq!(open(&KEY, &HEADER, &message), Err(Refusal::ShapeWrong));
                 // the first that fits: 82 00 80 and 128 bytes are 82 and 130 bytes as well
                 assert!(form.made(&KEY, &HEADER, &message) && form_of(&KEY, &HEADER, &message).is_some());
                 *message.last_mut().unwrap() ^= 1;

@@ -9,7 +9,7 @@ use crate::refusal::Refusal;
 /// Y as its 16 digits: the last 16 of card number and sequence number; a shorter X, of 14 or 15, gets zero digits before it.
 fn last_digits(pan: &[u8], sequence: u8) -> Result<[u8; 16], Refusal> {
     if !(12..=19).contains(&pan.len()) || pan.iter().any(|&d| d > 9) || sequence > 99 {
-        return Err(Refusal::Card);
+        return Err(Refusal::CardNumber);
     }
     let x = [&[0, 0], pan, &[sequence / 10, sequence % 10]].concat();
     Ok(x[x.len() - 16..].try_into().expect("16 digits"))
@@ -57,7 +57,7 @@ pub fn counter_key(session: &Key) -> Key {
 /// The first n bytes, 2 to 8, of the counter and six 00 enciphered.
 pub fn idn(key: &Key, counter: u16, n: usize) -> Result<Vec<u8>, Refusal> {
     if !(2..=8).contains(&n) {
-        return Err(Refusal::Range);
+        return Err(Refusal::Input);
     }
     let [high, low] = counter.to_be_bytes();
     Ok(encipher(key, &[high, low, 0, 0, 0, 0, 0, 0])[..n].to_vec())
@@ -74,11 +74,11 @@ mod tests {
             assert_eq!(card_key(&[0; 32], &vec![9; length], 99).is_ok(), wanted);
             assert_eq!(card_key_packed(&[0; 32], &vec![9; length], 99).is_ok(), wanted);
         }
-        assert_eq!(seed(&[0; 12], 100), Err(Refusal::Card));
+        assert_eq!(seed(&[0; 12], 100), Err(Refusal::CardNumber));
         for place in 0..12 {
             let mut pan = [0; 12];
             pan[place] = 10;
-            assert_eq!(seed(&pan, 0), Err(Refusal::Card));
+            assert_eq!(seed(&pan, 0), Err(Refusal::CardNumber));
         }
     }
 

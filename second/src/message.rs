@@ -42,14 +42,14 @@ fn read_length(bytes: &[u8]) -> Option<(usize, usize)> {
 
 /// Table 2: tag, length, data, 8e, 04, code of four bytes; nothing follows.
 pub fn shape(message: &[u8]) -> Result<Opened, Refusal> {
-    let (&tag, rest) = message.split_first().ok_or(Refusal::Shape)?;
-    let (length, field) = read_length(rest).ok_or(Refusal::Shape)?;
+    let (&tag, rest) = message.split_first().ok_or(Refusal::ShapeWrong)?;
+    let (length, field) = read_length(rest).ok_or(Refusal::ShapeWrong)?;
     let place = 1 + field;
     let end = place + length;
     if known(tag) && message.len() == end + 6 && message[end..end + 2] == [0x8e, 0x04] {
         Ok(Opened { tag, place, length })
     } else {
-        Err(Refusal::Shape)
+        Err(Refusal::ShapeWrong)
     }
 }
 
@@ -72,7 +72,7 @@ pub fn open(key: &Key, header: &Header, message: &[u8]) -> Result<Opened, Refusa
     if code_matches(key, header, message) {
         Ok(opened)
     } else {
-        Err(Refusal::Code)
+        Err(Refusal::CodeDiffers)
     }
 }
 
@@ -84,16 +84,16 @@ pub fn coded(key: &Key, header: &Header, tag: u8, field: &[u8], data: &[u8]) -> 
 
 /// A message of good shape, or refusal 1 for its tag or length.
 pub fn wrapped(key: &Key, header: &Header, tag: u8, data: &[u8]) -> Result<Vec<u8>, Refusal> {
-    let field = length_field(data.len()).filter(|_| known(tag)).ok_or(Refusal::Range)?;
+    let field = length_field(data.len()).filter(|_| known(tag)).ok_or(Refusal::Input)?;
     Ok(coded(key, header, tag, &field, data))
 }
 
 /// Writes a message into the buffer from the place on: 1, 3. Every other byte stays.
 pub fn wrap(key: &Key, header: &Header, tag: u8, data: &[u8], buffer: &mut [u8], place: u64) -> Result<(), Refusal> {
     let message = wrapped(key, header, tag, data)?;
-    let from = usize::try_from(place).map_err(|_| Refusal::Room)?;
-    let to = from.checked_add(message.len()).ok_or(Refusal::Room)?;
-    buffer.get_mut(from..to).ok_or(Refusal::Room)?.copy_from_slice(&message);
+    let from = usize::try_from(place).map_err(|_| Refusal::NoRoom)?;
+    let to = from.checked_add(message.len()).ok_or(Refusal::NoRoom)?;
+    buffer.get_mut(from..to).ok_or(Refusal::NoRoom)?.copy_from_slice(&message);
     Ok(())
 }
 
@@ -133,7 +133,7 @@ impl Command {
     /// The command with this header, tag and length, else refusal 5.
     pub fn of(header: &Header, opened: &Opened) -> Result<Command, Refusal> {
         let same = |c: &Command| c.header() == *header && c.tag() == opened.tag && c.length() == opened.length;
-        Self::ALL.into_iter().find(same).ok_or(Refusal::Command)
+        Self::ALL.into_iter().find(same).ok_or(Refusal::NotListed)
     }
 }
 
@@ -152,7 +152,7 @@ mod tests {
             for tag in [ENCIPHERED, CLEAR] {
                 let made = wrapped(&KEY, &HEADER, tag, &data);
                 if length > 255 {
-                    assert_eq!(made, Err(Refusal::Range));
+                    assert_eq!(made, Err(Refusal::Input));
                     continue;
                 }
                 let message = made.unwrap();
@@ -160,10 +160,10 @@ mod tests {
                 assert_eq!(message.len(), place + length + 6);
                 assert_eq!(open(&KEY, &HEADER, &message), Ok(Opened { tag, place, length }));
                 assert_eq!(message[place..place + length], data);
-                assert_eq!(open(&KEY, &[1, 2, 3, 5], &message), Err(Refusal::Code));
+                assert_eq!(open(&KEY, &[1, 2, 3, 5], &message), Err(Refusal::CodeDiffers));
             }
         }
-        assert_eq!(wrapped(&KEY, &HEADER, 0x86, &[]), Err(Refusal::Range));
+        assert_eq!(wrapped(&KEY, &HEADER, 0x86, &[]), Err(Refusal::Input));
     }
 
     /// Fields of one, two and three bytes, and the length that each would mean.
@@ -189,7 +189,7 @@ mod tests {
                         assert_eq!(wrapped(&KEY, &HEADER, tag, &data), Ok(message));
                         read.push(field);
                     }
-                    Err(refusal) => assert_eq!(refusal, Refusal::Shape, "{field:02x?}"),
+                    Err(refusal) => assert_eq!(refusal, Refusal::ShapeWrong, "{field:02x?}"),
                 }
             }
             let short = (0x00..=0x7f).map(|l| vec![l]);
@@ -203,7 +203,7 @@ mod tests {
     fn the_byte_81_is_no_length() {
         for first in 0..=255 {
             let message = coded(&KEY, &HEADER, CLEAR, &[0x81], &[&[first], &[0x5a; 128][..]].concat());
-            let wanted = if first == 0x80 { Ok(Opened { tag: CLEAR, place: 3, length: 128 }) } else { Err(Refusal::Shape) };
+            let wanted = if first == 0x80 { Ok(Opened { tag: CLEAR, place: 3, length: 128 }) } else { Err(Refusal::ShapeWrong) };
             assert_eq!(open(&KEY, &HEADER, &message), wanted);
         }
     }
@@ -213,9 +213,9 @@ mod tests {
     fn nothing_lacks_and_nothing_follows() {
         for length in 0..=255 {
             let message = wrapped(&KEY, &HEADER, CLEAR, &vec![0x5a; length]).unwrap();
-            assert_eq!(shape(&message[..message.len() - 1]), Err(Refusal::Shape));
+            assert_eq!(shape(&message[..message.len() - 1]), Err(Refusal::ShapeWrong));
             for more in [1, 2, 128, 256, 65536] {
-                assert_eq!(shape(&[&message[..], &vec![0; more]].concat()), Err(Refusal::Shape));
+                assert_eq!(shape(&[&message[..], &vec![0; more]].concat()), Err(Refusal::ShapeWrong));
             }
         }
     }
@@ -224,14 +224,14 @@ mod tests {
     fn old_shape(message: &[u8]) -> Result<Opened, Refusal> {
         let (tag, length) = match *message {
             [tag, length, ..] => (tag, length),
-            _ => return Err(Refusal::Shape),
+            _ => return Err(Refusal::ShapeWrong),
         };
         let length = usize::from(length);
         let good = known(tag) && length <= 127 && message.len() == length + 8 && message[2 + length..4 + length] == [0x8e, 0x04];
         if good {
             Ok(Opened { tag, place: 2, length })
         } else {
-            Err(Refusal::Shape)
+            Err(Refusal::ShapeWrong)
         }
     }
 
@@ -295,12 +295,12 @@ mod tests {
         for (length, size) in [(0, 8), (127, 135), (128, 137), (255, 264)] {
             let data = vec![0x5a; length];
             let mut buffer = vec![0xaa; size + 1];
-            assert_eq!(wrap(&KEY, &HEADER, CLEAR, &data, &mut buffer, 2), Err(Refusal::Room));
+            assert_eq!(wrap(&KEY, &HEADER, CLEAR, &data, &mut buffer, 2), Err(Refusal::NoRoom));
             assert_eq!(buffer, vec![0xaa; size + 1]);
             assert_eq!(wrap(&KEY, &HEADER, CLEAR, &data, &mut buffer, 1), Ok(()));
             assert_eq!(buffer[0], 0xaa);
             assert_eq!(buffer[1..], wrapped(&KEY, &HEADER, CLEAR, &data).unwrap());
         }
-        assert_eq!(wrap(&KEY, &HEADER, CLEAR, &[0; 256], &mut [], u64::MAX), Err(Refusal::Range));
+        assert_eq!(wrap(&KEY, &HEADER, CLEAR, &[0; 256], &mut [], u64::MAX), Err(Refusal::Input));
     }
 }

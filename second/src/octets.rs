@@ -6,7 +6,7 @@ pub type Key = [u8; 32];
 
 /// The bytes as an array of the length that the paper states; any other length is refusal 1.
 pub fn exact<const N: usize>(bytes: &[u8]) -> Result<[u8; N], Refusal> {
-    bytes.try_into().map_err(|_| Refusal::Range)
+    bytes.try_into().map_err(|_| Refusal::Input)
 }
 
 /// The value of a digit; capitals are foreign signs.

@@ -223,7 +223,7 @@ fn r_016_idn() {
         assert_eq!(idn(&hex(key), 0x0010, wanted.len()), Ok(wanted));
     }
     for n in [0, 1, 9] {
-        assert_eq!(idn(&[0; 32], 0, n), Err(Refusal::Range));
+        assert_eq!(idn(&[0; 32], 0, n), Err(Refusal::Input));
     }
 }
 
@@ -296,13 +296,13 @@ fn p3_to_p7_pin_blocks() {
 #[test]
 fn p8_to_p10_shapes() {
     assert_eq!(shape(&octets("81008e0400000000")), Ok(Opened { tag: 0x81, place: 2, length: 0 }));
-    assert_eq!(shape(&octets("81008e0500000000")), Err(Refusal::Shape));
+    assert_eq!(shape(&octets("81008e0500000000")), Err(Refusal::ShapeWrong));
     let long = |field: &[u8], length| [&[0x87], field, &vec![0; length][..], &[0x8e, 4, 0, 0, 0, 0]].concat();
-    assert_eq!(shape(&long(&[0x80], 128)), Err(Refusal::Shape));
+    assert_eq!(shape(&long(&[0x80], 128)), Err(Refusal::ShapeWrong));
     assert_eq!(shape(&long(&[0x7f], 127)), Ok(Opened { tag: 0x87, place: 2, length: 127 }));
     // Wish 1
     assert_eq!(shape(&long(&[0x81, 0x80], 128)), Ok(Opened { tag: 0x87, place: 3, length: 128 }));
-    assert_eq!(shape(&long(&[0x81, 0x7f], 127)), Err(Refusal::Shape));
+    assert_eq!(shape(&long(&[0x81, 0x7f], 127)), Err(Refusal::ShapeWrong));
 }
 
 #[test]
@@ -319,7 +319,7 @@ fn card(transaction_counter: u16) -> Record {
 
 #[test]
 fn p12_open_at_the_last_counter() {
-    assert_eq!(card(65535).open(&[0; 65]), (card(65535), Err(Refusal::Counter)));
+    assert_eq!(card(65535).open(&[0; 65]), (card(65535), Err(Refusal::CounterFull)));
 }
 
 #[test]
@@ -331,7 +331,7 @@ fn p13_withdraw_with_none_open() {
 fn p14_close_when_spoilt() {
     let spoilt = card(0).open(&[0; 65]).0.script(&[], &[]).0;
     assert!(spoilt.spoilt);
-    assert_eq!(spoilt.close().1, Err(Refusal::Spoilt));
+    assert_eq!(spoilt.close().1, Err(Refusal::SpoiltClosed));
 }
 
 /// The check of paper 01 on the string under the code: the fallback string does not give it.

@@ -4,31 +4,31 @@
 #[repr(u8)]
 pub enum Refusal {
     /// An input has not the length or range stated.
-    Range = 1,
+    Input = 1,
     /// The card number is not 12 to 19 digits, or the sequence number is above 99.
-    Card = 2,
+    CardNumber = 2,
     /// The output does not fit from the named place.
-    Room = 3,
+    NoRoom = 3,
     /// The shape of the message is wrong.
-    Shape = 4,
+    ShapeWrong = 4,
     /// Header, tag and length are of no listed command.
-    Command = 5,
+    NotListed = 5,
     /// Not a call of this phase, or no record yet.
-    Phase = 6,
+    PhaseWrong = 6,
     /// A counter stands at 65535.
-    Counter = 7,
+    CounterFull = 7,
     /// The code of the message differs.
-    Code = 8,
+    CodeDiffers = 8,
     /// The format of the PIN block is wrong.
     PinFormat = 9,
     /// The transaction was spoilt, and nothing of it is kept.
-    Spoilt = 10,
+    SpoiltClosed = 10,
     /// The ARPC differs.
-    Arpc = 11,
+    ArpcDiffers = 11,
     /// The PIN is not 4 to 12 digits.
     PinDigits = 12,
     /// The line cannot be read.
-    Line = 13,
+    Unreadable = 13,
 }
 
 impl Refusal {

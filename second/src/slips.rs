@@ -64,12 +64,12 @@ impl Slipping {
         let first = from_hex(line).and_then(|frame| frame.first().copied());
         if let (Some(before), Some(first)) = (before, first) {
             self.slip(&before, first, number_of(&answer));
-            if answer == Err(Refusal::Shape) {
+            if answer == Err(Refusal::ShapeWrong) {
                 return self.reshaped(before, line);
             }
         }
         if self.slip == Slip::LongLine && line.len() > LONGEST && self.run.record.is_some() {
-            return Err(Refusal::Shape);
+            return Err(Refusal::ShapeWrong);
         }
         answer
     }
@@ -80,15 +80,15 @@ impl Slipping {
         let header = std::array::from_fn(|i| frame[1 + i]);
         let form = form_of(&script_key(&before.smi, &before.cryptogram), &header, &frame[5..]);
         match self.slip {
-            Slip::ShortForm if form.map_or(false, |form| form.before == [0x81]) && frame[7] == 0x7f => Err(Refusal::Command),
-            Slip::LongAsOne if form.map_or(false, |form| form.before.is_empty()) => Err(Refusal::Command),
+            Slip::ShortForm if form.map_or(false, |form| form.before == [0x81]) && frame[7] == 0x7f => Err(Refusal::NotListed),
+            Slip::LongAsOne if form.map_or(false, |form| form.before.is_empty()) => Err(Refusal::NotListed),
             Slip::SizeAsByte if frame.len() > 256 => {
                 let mut run = Run { record: Some(before) };
-                let accepted = run.answer(&line[..line.len() - 512]).map_err(|_| Refusal::Shape)?;
+                let accepted = run.answer(&line[..line.len() - 512]).map_err(|_| Refusal::ShapeWrong)?;
                 self.run = run;
                 Ok(accepted)
             }
-            _ => Err(Refusal::Shape),
+            _ => Err(Refusal::ShapeWrong),
         }
     }
 

@@ -187,7 +187,7 @@ impl Tally {
         let number = number_of(&answer);
         self.lines += 1;
         *self.numbers.entry((row(line), number)).or_default() += 1;
-        let read = number != Refusal::Line.number();
+        let read = number != Refusal::Unreadable.number();
         if (279..=283).contains(&line.len()) || (537..=541).contains(&line.len()) {
             self.cause(format!("line of {} signs{}", line.len(), if read { ", read" } else { "" }));
         }

@@ -17,11 +17,11 @@ pub type Answered = Result<Vec<u8>, Refusal>;
 /// The frame that a line writes, or 13.
 pub fn read_frame(line: &[u8]) -> Result<Vec<u8>, Refusal> {
     if line.is_empty() || line.len() > LONGEST {
-        return Err(Refusal::Line);
+        return Err(Refusal::Unreadable);
     }
-    let frame = from_hex(line).ok_or(Refusal::Line)?;
+    let frame = from_hex(line).ok_or(Refusal::Unreadable)?;
     if frame[0] > LAST_FRAME {
-        return Err(Refusal::Line);
+        return Err(Refusal::Unreadable);
     }
     Ok(frame)
 }
@@ -46,7 +46,7 @@ impl Run {
             self.record = Some(personalised(rest)?);
             return Ok(vec![]);
         }
-        let record = self.record.clone().ok_or(Refusal::Phase)?;
+        let record = self.record.clone().ok_or(Refusal::PhaseWrong)?;
         let (after, answer) = call(record, first, rest);
         self.record = Some(after);
         answer
@@ -55,12 +55,12 @@ impl Run {
 
 /// Frame 00: keys AC, SMI and SMC, counter, counter block, mark, clear PIN block. 1 (length, mark) goes ahead of 9.
 fn personalised(rest: &[u8]) -> Result<Record, Refusal> {
-    let fields: &[u8; 115] = rest.try_into().map_err(|_| Refusal::Range)?;
+    let fields: &[u8; 115] = rest.try_into().map_err(|_| Refusal::Input)?;
     let key = |i: usize| std::array::from_fn(|j| fields[32 * i + j]);
     let block = |from: usize| std::array::from_fn(|j| fields[from + j]);
     let mark = fields[106];
     if mark > 1 {
-        return Err(Refusal::Range);
+        return Err(Refusal::Input);
     }
     let pin = pin::read(&block(107))?;
     let counter = u16::from_be_bytes([fields[96], fields[97]]);
@@ -81,7 +81,7 @@ fn call(record: Record, first: u8, rest: &[u8]) -> After<Vec<u8>> {
         }
         4 => within(record, rest, |record| bytes(record.close(), |()| vec![])),
         5 if rest.is_empty() => bytes(record.withdraw(), |()| vec![]),
-        5 => (record, Err(Refusal::Range)),
+        5 => (record, Err(Refusal::Input)),
         _ => within(record, rest, |record| bytes(record.counters(), |block| block.to_vec())),
     }
 }
@@ -93,7 +93,7 @@ fn bytes<T>((record, answer): After<T>, write: impl Fn(T) -> Vec<u8>) -> After<V
 /// Close and Counters have no field: phase first, then the length.
 fn within(record: Record, rest: &[u8], call: impl Fn(Record) -> After<Vec<u8>>) -> After<Vec<u8>> {
     if record.phase != Phase::None && !rest.is_empty() {
-        return (record, Err(Refusal::Range));
+        return (record, Err(Refusal::Input));
     }
     call(record)
 }
@@ -216,11 +216,11 @@ mod tests {
     /// The rule before Wish 1.
     fn old_read_frame(line: &[u8]) -> Result<Vec<u8>, Refusal> {
         if line.is_empty() || line.len() > 280 {
-            return Err(Refusal::Line);
+            return Err(Refusal::Unreadable);
         }
-        let frame = from_hex(line).ok_or(Refusal::Line)?;
+        let frame = from_hex(line).ok_or(Refusal::Unreadable)?;
         if frame[0] > 6 {
-            return Err(Refusal::Line);
+            return Err(Refusal::Unreadable);
         }
         Ok(frame)
     }

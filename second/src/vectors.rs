@@ -12,7 +12,7 @@ use crate::refusal::Refusal;
 
 /// The value of an operation on its inputs.
 fn value(operation: &str, inputs: &[Vec<u8>]) -> Result<Vec<u8>, Refusal> {
-    let given = |i: usize| inputs.get(i).map(Vec::as_slice).ok_or(Refusal::Range);
+    let given = |i: usize| inputs.get(i).map(Vec::as_slice).ok_or(Refusal::Input);
     let key = exact::<32>(given(0)?);
     let counter = || Ok(u16::from_be_bytes(exact(given(1)?)?));
     let byte = |i| Ok(exact::<1>(given(i)?)?[0]);
@@ -35,7 +35,7 @@ fn value(operation: &str, inputs: &[Vec<u8>]) -> Result<Vec<u8>, Refusal> {
         "aac" => sealed(Kind::Aac),
         "write-pin" => Ok(pin::write(given(0)?)?.to_vec()),
         "encipher-pin" => Ok(encipher(&key?, &pin::write(given(1)?)?).to_vec()),
-        _ => Err(Refusal::Line),
+        _ => Err(Refusal::Unreadable),
     }
 }
 
@@ -47,7 +47,7 @@ pub fn answer(line: &str) -> String {
         _ => return format!("not a vector: {line}"),
     };
     let inputs: Option<Vec<Vec<u8>>> = inputs.iter().map(|digits| from_hex(digits.as_bytes())).collect();
-    let result = inputs.map_or(Err(Refusal::Line), |inputs| value(operation, &inputs));
+    let result = inputs.map_or(Err(Refusal::Unreadable), |inputs| value(operation, &inputs));
     match result {
         Ok(bytes) => format!("{document} {clause} {operation} {}", to_hex(&bytes)),
         Err(refusal) => format!("{document} {clause} {operation} refusal {}", refusal.number()),

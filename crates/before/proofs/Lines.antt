@@ -11,7 +11,7 @@ use Rattle.card.specs.declared.Card.{Card}
 use Rattle.card.specs.declared.Reply.{Reply}
 use Rattle.lines.specs.declared.Held.{Held}
 use Rattle.lines.specs.Lines.{longest, lastFrame, lines, octetsOf, hexadecimal, readable, lineFor}
-use Rattle.lines.specs.Answers.{nothing, Answer, numbered, replied}
+use Rattle.lines.specs.Answers.{nothing, LineAnswer, numbered, replied}
 use Rattle.frames.specs.Frames.{personalisedBy, starts, called, calling, framed, answerTo}
 use Rattle.frames.proofs.FrameLaws.{called-3}
 use Rattle.trace.specs.Traced.{answers, traced}
@@ -54,7 +54,7 @@ module _ (l : List ℕ) (k : length l ≤ lineBefore) where
   same-line h =
       let o = octetsOf l in
       let n : length (drop 1 o) ≤ 139 = omega (arith, length-drop 1 o, octets-half l) in
-      ap₂ (λ (x : Bool) (a : Answer). cond x a (numbered h 13)) same-readable (same-framed (drop 1 o) n h (getD o 0 0))
+      ap₂ (λ (x : Bool) (a : LineAnswer). cond x a (numbered h 13)) same-readable (same-framed (drop 1 o) n h (getD o 0 0))
 
 same-answers : (ls : List (List ℕ)) → noneAbove lineBefore ls ≡ true → (h : Held) → answers h ls ≡ answersBefore h ls
 unfolding noneAbove answers answersBefore
@@ -62,7 +62,7 @@ same-answers [] e h = refl
 same-answers (l ∷ ls) e h =
     let w = and-eq-true-iff (leb (length l) lineBefore) (noneAbove lineBefore ls) .0 e in
     let q = same-line l (leb-true _ _ (w .0)) h in
-    ap (λ (a : Answer). lineFor (a .octets) ++ answers (a .after) ls) q
+    ap (λ (a : LineAnswer). lineFor (a .octets) ++ answers (a .after) ls) q
     ∙ ap (λ (t : List ℕ). lineFor (answerBefore h l .octets) ++ t) (same-answers ls (w .1) (answerBefore h l .after))
 
 pub reads-as-before : ReadsAsBefore

@@ -22,7 +22,7 @@ use Rattle.card.specs.Keys.{smiKey, smcKey}
 use Rattle.card.specs.Calls.{Verdict, refuse, accept, Message, judgedScript, acceptedScript, refusedScript, plain}
 use Rattle.lines.specs.declared.Held.{Held}
 use Rattle.lines.specs.Lines.{lastFrame, lines, octetsOf, hexadecimal, lineFor}
-use Rattle.lines.specs.Answers.{nothing, Answer, numbered, replied}
+use Rattle.lines.specs.Answers.{nothing, LineAnswer, numbered, replied}
 use Rattle.frames.specs.Frames.{personalisedBy, starts, called as calledNow}
 
 -- "one length byte L from 0 to 127"
@@ -101,13 +101,13 @@ readable l = leb (length l) longest && (hexadecimal l && leb (getD (octetsOf l) 
 unfoldable pub called : Card → ℕ → List ℕ → Reply
 called r f s = cond (eqb f 3) (script r (take 4 s) (drop 4 s)) (calledNow r f s)
 
-unfoldable pub calling : Held → ℕ → List ℕ → Answer
+unfoldable pub calling : Held → ℕ → List ℕ → LineAnswer
 calling h f s = cond (h .exists) (replied f (called (h .card) f s)) (numbered h (number PhaseWrong))
 
-unfoldable pub framed : Held → ℕ → List ℕ → Answer
+unfoldable pub framed : Held → ℕ → List ℕ → LineAnswer
 framed h f s = cond (eqb f 0) (starts h (personalisedBy s)) (calling h f s)
 
-unfoldable pub answerTo : Held → List ℕ → Answer
+unfoldable pub answerTo : Held → List ℕ → LineAnswer
 answerTo h l = cond (readable l) (framed h (getD (octetsOf l) 0 0) (drop 1 (octetsOf l))) (numbered h (number Unreadable))
 
 -- the clerk's trace

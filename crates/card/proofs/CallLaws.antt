@@ -49,31 +49,31 @@ use Rattle.cryptogram.specs.Answers.{cryptogramAnswer, arpcAnswer, kindNumber}
 use Rattle.cryptogram.proofs.AnswerLaws as cryptograms
 use Rattle.transaction.specs.declared.PendingMark.{PendingMark}
 use Rattle.transaction.specs.declared.Transaction.{Transaction}
-use Rattle.transaction.specs.Transaction.{isOpen, none, spoilt, kindFor, begun, isArqc, markFor, markAfter}
+use Rattle.transaction.specs.Transaction.{isOpen, none, spoilt, kindFor, justOpened, isArqc, markFor, markAfter}
 use Rattle.card.specs.declared.Card.{Card}
 use Rattle.card.specs.declared.Reply.{Reply}
 use Rattle.card.specs.Record.{sound, Kept, kept, withTransaction, withKept, withCounters, withSession, oneFailed}
 use Rattle.card.specs.Keys.{sessionKeyOf, smiKey, smcKey, counterKeyOf}
 use Rattle.card.specs.Calls.{Call, Open, IssuerAnswer, Script, Close, Withdraw, Counters, Verdict, refuse, accept, firstStruck, read, judgedScript, judged, grown, cryptogramFor, arpcFor, countersFor}
-use Rattle.card.specs.Calls.{scriptChecks, gives, newPin, newMark, pend, laid, accepted, due, after, reply, plain, step}
+use Rattle.card.specs.Calls.{scriptChecks, gives, newPin, newMark, pend, settled, accepted, due, after, reply, plain, step}
 use Rattle.card.specs.Inner.{scriptAs, takenAs, obeyedAs, judgedAs, Fits}
 use Rattle.card.specs.Personalise.{blank, personalised}
 
 -- what is pending laid over what is kept
 abbrev pinLaid : Card → Transaction → Card
-pinLaid r t = withKept r (record { pin = laid t (kept r) .pin; count = laid t (kept r) .count; mark = r .mark })
+pinLaid r t = withKept r (record { pin = settled t (kept r) .pin; count = settled t (kept r) .count; mark = r .mark })
 
 pub laid-none : (r : Card) (t : Transaction) → t .count ≡ 0 → r ≡ pinLaid r t
-unfolding laid
+unfolding settled
 laid-none r t h = rw (eq-eqb _ _ h)
 
 pub laid-some : (r : Card) (t : Transaction) → (t .count ≡ 0 → ⊥) → withKept r (record { pin = t .pin; count = t .count; mark = r .mark }) ≡ pinLaid r t
-unfolding laid
+unfolding settled
 laid-some r t h = rw (ne-eqb _ _ h)
 
 pub lay-done : (r d : Card) (t : Transaction) (b : Bool) → d ≡ pinLaid r t → b ≡ markAfter (t .mark) (d .mark)
-    → withKept d (record { pin = d .pin; count = d .count; mark = b }) ≡ withKept r (laid t (kept r))
-unfolding laid
+    → withKept d (record { pin = d .pin; count = d .count; mark = b }) ≡ withKept r (settled t (kept r))
+unfolding settled
 lay-done r d t b e f =
     ap₂ (λ (x : Card) (y : Bool). withKept x (record { pin = x .pin; count = x .count; mark = y })) e (f ∙ ap (λ (x : Card). markAfter (t .mark) (x .mark)) e)
 
@@ -141,7 +141,7 @@ module _ (r : Card) (k : List ℕ) (ek : k ≡ sessionKeyOf r) where
 
 -- an opened transaction
 pub opened-by : (r : Card) (d k : List ℕ) (kind : Kind) (x : BlockAnswer) (t : Transaction) (n : ℕ) → length d ≡ 65 → k ≡ sessionKeyOf (grown r) → kind ≡ kindFor (r .mark)
-    → x ≡ cryptogramAnswer k kind (r .atc + 1) d → t ≡ begun (r .mark) (x .bytes) → n ≡ kindNumber kind
+    → x ≡ cryptogramAnswer k kind (r .atc + 1) d → t ≡ justOpened (r .mark) (x .bytes) → n ≡ kindNumber kind
     → record { card = withTransaction (grown r) t; code = 0; kind = n; bytes = x .bytes } ≡ reply (accepted r (Open d)) (gives r (Open d))
 unfolding cryptogramFor
 opened-by r d k kind x t n l ek ej ex et en =
@@ -150,7 +150,7 @@ opened-by r d k kind x t n l ek ej ex et en =
     (ex ∙ ap₂ (λ (y : List ℕ) (z : Kind). cryptogramAnswer y z (r .atc + 1) d) ek ej ∙ sym (cryptograms.made (sessionKeyOf (grown r)) (kindFor (r .mark)) (r .atc + 1) d (length-session (grown r)) l))
     in
     ap₂ (λ (y : Transaction) (z : ℕ). record { card = withTransaction (grown r) y; code = 0; kind = z; bytes = x .bytes }) et (en ∙ ap kindNumber ej)
-    ∙ ap (λ (y : List ℕ). record { card = withTransaction (grown r) (begun (r .mark) y); code = 0; kind = kindNumber (kindFor (r .mark)); bytes = y }) w
+    ∙ ap (λ (y : List ℕ). record { card = withTransaction (grown r) (justOpened (r .mark) y); code = 0; kind = kindNumber (kindFor (r .mark)); bytes = y }) w
 
 -- the refusals of an unsound record, and of a sound one
 module _ (r : Card) (a : Reply) (s : Bool) (e : s ≡ sound r) where
@@ -223,7 +223,7 @@ module _ (r : Card) (a : Reply) (s : Bool) (e : s ≡ sound r) where
         unfolding judged due after
         close-spoilt t p n z = z ∙ rw (fine, ajar, p, n)
 
-        pub close-done : (t : Transaction) (d : Card) → r .transaction .spoilt ≡ false → d ≡ withKept r (laid (r .transaction) (kept r)) → t ≡ none
+        pub close-done : (t : Transaction) (d : Card) → r .transaction .spoilt ≡ false → d ≡ withKept r (settled (r .transaction) (kept r)) → t ≡ none
             → a ≡ plain (withTransaction d t) 0 → a ≡ step r Close
         unfolding judged due after
         close-done t d p l n z = z ∙ ap₂ (λ (x : Card) (y : Transaction). plain (withTransaction x y) 0) l n ∙ rw (fine, ajar, p)

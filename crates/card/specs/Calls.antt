@@ -23,7 +23,7 @@ use Rattle.shapes.specs.Shape.{tagOf, dataOf, shape}
 use Rattle.shapes.specs.Command.{commandOf}
 use Rattle.message.specs.Code.{codeFits}
 use Rattle.transaction.specs.declared.Transaction.{Transaction}
-use Rattle.transaction.specs.Transaction.{isOpen, none, spoilt, withPending, kindFor, begun, isArqc, markFor, markAfter}
+use Rattle.transaction.specs.Transaction.{isOpen, none, spoilt, withPending, kindFor, justOpened, isArqc, markFor, markAfter}
 use Rattle.card.specs.declared.Card.{Card}
 use Rattle.card.specs.declared.Reply.{Reply}
 use Rattle.card.specs.Record.{sound, Kept, kept, withTransaction, withKept, withCounters, withSession, oneFailed}
@@ -163,8 +163,8 @@ pendAll [] t = t
 pendAll (o ∷ os) t = pendAll os (pend o t)
 
 -- Close: "a pending PIN or mark becomes the kept one"
-unfoldable pub laid : Transaction → Kept → Kept
-laid t k =
+unfoldable pub settled : Transaction → Kept → Kept
+settled t k =
     record { pin = cond (eqb (t .count) 0) (k .pin) (t .pin); count = cond (eqb (t .count) 0) (k .count) (t .count); mark = markAfter (t .mark) (k .mark) }
 
 -- the record after an accepted call. Issuer answer: "on a match the session counter becomes 0". Withdraw: "drops what is pending and ends the
@@ -173,10 +173,10 @@ abbrev pub acceptedScript : Card → Message → Card
 acceptedScript r x = withTransaction r (pendAll (orders (x .command) (x .block)) (r .transaction))
 
 abbrev pub accepted : Card → Call → Card
-accepted r (Open d) = withTransaction (grown r) (begun (r .mark) (cryptogramFor (grown r) d))
+accepted r (Open d) = withTransaction (grown r) (justOpened (r .mark) (cryptogramFor (grown r) d))
 accepted r (IssuerAnswer arpc csu) = withCounters r (r .atc) (withSession (r .counters) 0)
 accepted r (Script h m) = acceptedScript r (read r h m)
-accepted r Close = withTransaction (withKept r (laid (r .transaction) (kept r))) none
+accepted r Close = withTransaction (withKept r (settled (r .transaction) (kept r))) none
 accepted r Withdraw = withTransaction r none
 accepted r Counters = r
 

@@ -22,14 +22,14 @@ scriptAs r x accept = plain (acceptedScript r x) 0
 abbrev pub judgedAs : Card → List ℕ → Message → Reply
 judgedAs r h x = scriptAs r x (firstStruck (drop 1 (scriptChecks r h x)))
 
-abbrev pub coded : Listed → Bool → PinRead → Message
-coded l b x = record { shaped = true; command = l; coded = b; block = x }
+abbrev pub messageWith : Listed → Bool → PinRead → Message
+messageWith l b x = record { shaped = true; command = l; coded = b; block = x }
 
 abbrev pub obeyedAs : Card → Listed → Bool → PinRead → Reply
-obeyedAs r l b x = scriptAs r (coded l b x) (firstStruck (drop 4 (scriptChecks r [] (coded l b x))))
+obeyedAs r l b x = scriptAs r (messageWith l b x) (firstStruck (drop 4 (scriptChecks r [] (messageWith l b x))))
 
 abbrev pub takenAs : Card → Listed → PinRead → Reply
-takenAs r l x = scriptAs r (coded l true x) (firstStruck (drop 6 (scriptChecks r [] (coded l true x))))
+takenAs r l x = scriptAs r (messageWith l true x) (firstStruck (drop 6 (scriptChecks r [] (messageWith l true x))))
 
 -- words lent for a master key: those of the key kept, or none
 abbrev pub Fits : List ℕ → List ℕ → Type 0

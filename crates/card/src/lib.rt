@@ -20,7 +20,7 @@ ghost use Rattle.shapes.specs.declared.command.Listed.the-variants.{One};
 ghost use Rattle.transaction.specs.Transaction.{spoilt as spoiltOf};
 ghost use Rattle.card.specs.Record.{sound, kept, withTransaction, withKept};
 ghost use Rattle.card.specs.Keys.{sessionKeyOf, smiKey, smcKey};
-ghost use Rattle.card.specs.Calls.{plain, arpcFor, countersFor, newMark, pend, laid, accepted, gives, reply, read, step, Open, IssuerAnswer, Script, Close, Withdraw, Counters as CountersCall};
+ghost use Rattle.card.specs.Calls.{plain, arpcFor, countersFor, newMark, pend, settled, accepted, gives, reply, read, step, Open, IssuerAnswer, Script, Close, Withdraw, Counters as CountersCall};
 ghost use Rattle.card.specs.Inner.{takenAs, obeyedAs, judgedAs, Fits};
 ghost use Rattle.card.specs.Personalise.{blank as blankAs, personalised};
 
@@ -156,7 +156,7 @@ fn counters_for(c: Card, ac: &[u64]) -> [u8; 8]
 
 // What is pending laid over what is kept: the PIN, then the mark.
 fn laid_pin(mut c: Card, t: Transaction) -> Card
-    ensures { λ r. ⌜ r ≡ withKept c (record { pin = laid t (kept c) .pin; count = laid t (kept c) .count; mark = c .mark }) ⌝ }
+    ensures { λ r. ⌜ r ≡ withKept c (record { pin = settled t (kept c) .pin; count = settled t (kept c) .count; mark = c .mark }) ⌝ }
 {
     if t.count == 0 {
         return c;
@@ -168,7 +168,7 @@ fn laid_pin(mut c: Card, t: Transaction) -> Card
 }
 
 fn lay(c: Card, t: Transaction) -> Card
-    ensures { λ r. ⌜ r ≡ withKept c (laid t (kept c)) ⌝ }
+    ensures { λ r. ⌜ r ≡ withKept c (settled t (kept c)) ⌝ }
 {
     let mut d = laid_pin(c, t);
     let mark = t.mark;

@@ -8,12 +8,12 @@ use Rattle.octets.specs.Numbers.{Octets}
 use Rattle.octets.proofs.NumberLaws.{length-leOctets, octets-leOctets}
 use Rattle.blocks.specs.Blocks.{absorbed}
 use Rattle.blocks.proofs.Laws.{continued}
-use Rattle.cipher.specs.Code.{step, start, state, codeOf}
+use Rattle.cipher.specs.Code.{codeStep, start, state, codeOf}
 
 -- the state after n whole blocks and more is reached from the state after those blocks
-pub code-continues : (ks : List ℕ) (n : ℕ) (m x : List ℕ) → length m ≡ n * 8 → state ks (m ++ x) ≡ absorbed 8 (step ks) (state ks m) x
+pub code-continues : (ks : List ℕ) (n : ℕ) (m x : List ℕ) → length m ≡ n * 8 → state ks (m ++ x) ≡ absorbed 8 (codeStep ks) (state ks m) x
 unfolding state
-code-continues ks n m x e = continued 8 (lit< tt) (step ks) n start m x e
+code-continues ks n m x e = continued 8 (lit< tt) (codeStep ks) n start m x e
 
 pub length-codeOf : (ks m : List ℕ) → length (codeOf ks m) ≡ 4
 unfolding codeOf

@@ -13,8 +13,8 @@ unfoldable pub added : Halves → Halves → Halves
 added s t = record { n1 = bitXor (s .n1) (t .n1); n2 = bitXor (s .n2) (t .n2) }
 
 -- a block is added to the state, and the first 16 of the 32 rounds follow: the subkeys twice up
-unfoldable pub step : List ℕ → Halves → List ℕ → Halves
-step ks s b = rounds (ks ++ ks) (added s (halves b))
+unfoldable pub codeStep : List ℕ → Halves → List ℕ → Halves
+codeStep ks s b = rounds (ks ++ ks) (added s (halves b))
 
 -- zeros, so that the first block enters as it is
 unfoldable pub start : Halves
@@ -22,7 +22,7 @@ start = record { n1 = 0; n2 = 0 }
 
 -- the state after the whole blocks of m, under the subkeys of a key
 unfoldable pub state : List ℕ → List ℕ → Halves
-state ks m = absorbed 8 (step ks) start m
+state ks m = absorbed 8 (codeStep ks) start m
 
 -- the code is N1 of the last state, least significant octet first
 unfoldable pub codeOf : List ℕ → List ℕ → List ℕ

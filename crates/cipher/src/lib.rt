@@ -7,7 +7,7 @@ ghost use mathlib.Core.List.{_++_};
 ghost use Rattle.octets.specs.Numbers.{le};
 ghost use Rattle.blocks.specs.Blocks.{absorbed};
 ghost use Rattle.gost.specs.Gost.{rounds, halves, block, through, forth, back, subkeys};
-ghost use Rattle.cipher.specs.Code.{added, step};
+ghost use Rattle.cipher.specs.Code.{added, codeStep};
 ghost use Rattle.cipher.specs.Answers.{enciphered, deciphered, coded, codedWith};
 pub use answers::BlockAnswer;
 use answers::Refusal;
@@ -103,7 +103,7 @@ fn absorb(k: [u32; 8], s: Halves, m: Halves) -> Halves
 
 // The state of the code after the whole blocks of m.
 pub fn absorb_all(k: [u32; 8], s: Halves, m: &[u8]) -> Halves
-    ensures { λ r. ⌜ r ≡ absorbed 8 (step k) s (now (m .entry)) ⌝ }
+    ensures { λ r. ⌜ r ≡ absorbed 8 (codeStep k) s (now (m .entry)) ⌝ }
 {
     let mut t = s;
     let n = m.len() / 8;

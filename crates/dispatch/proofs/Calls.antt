@@ -8,7 +8,7 @@ use Rattle.card.specs.declared.Card.{Card}
 use Rattle.card.specs.Calls.{Call, due}
 use Rattle.card.specs.Personalise.{blank}
 use Rattle.lines.specs.declared.Held.{Held}
-use Rattle.lines.specs.Answers.{holding, nothing, Answer, numbered}
+use Rattle.lines.specs.Answers.{holding, nothing, LineAnswer, numbered}
 use Rattle.frames.specs.Frames.{answerTo}
 use Rattle.history.specs.Run.{Loading, did, ours}
 use Rattle.history.specs.Ledger.{afterCalls}
@@ -60,7 +60,7 @@ record-so h l x ls e f n =
 
 called-so : (r : Card) (m : List ℕ) (c : Call) → frameIn m ≡ call c → answerTo (holding r) m .octets ≡ octetsIn (did c (due r c))
 unfolding answered
-called-so r m c e = ap (λ (a : Answer). a .octets) (of-line (holding r) m) ∙ ap (λ (g : Frame). answered ours (withRecord ours r) g .octets) e
+called-so r m c e = ap (λ (a : LineAnswer). a .octets) (of-line (holding r) m) ∙ ap (λ (g : Frame). answered ours (withRecord ours r) g .octets) e
 
 pub demanded-of-traces : DemandedOfTraces
 unfolding asHeld

@@ -15,7 +15,7 @@ use Rattle.card.specs.Calls.{Call, Open, IssuerAnswer, Script, Close, Withdraw,
 use Rattle.card.specs.Personalise.{blank}
 use Rattle.lines.specs.declared.Held.{Held}
 use Rattle.lines.specs.Lines.{longest, lastFrame, hexadecimal, octetsOf, readable, lines, lineFor}
-use Rattle.lines.specs.Answers.{nothing, Answer, numbered, octetsFor, replied}
+use Rattle.lines.specs.Answers.{nothing, LineAnswer, numbered, octetsFor, replied}
 use Rattle.frames.specs.Frames.{personalisedBy, starts as startsNow, overlong, called, calling, framed, answerTo}
 use Rattle.trace.specs.Traced.{answers, traced}
 use Rattle.history.specs.Run.{Loading, personalisedWith, frame, ours}
@@ -27,7 +27,7 @@ abbrev held : Bool → Card → Held
 held e r = record { exists = e; card = r }
 
 -- what is answered to a frame that is known
-abbrev now : Held → Frame → Answer
+abbrev now : Held → Frame → LineAnswer
 now h f = asAnswer (answered ours (ofHeld h) f)
 
 loads-so : (h : Held) (x : Loading) → startsNow h (personalisedWith x) ≡ now h (personalise x)
@@ -122,14 +122,14 @@ pub after-lines : (h : Held) (ls : List (List ℕ)) → ofHeld (afterLines h ls)
 unfolding afterLines afterFrames
 after-lines h [] = refl
 after-lines h (l ∷ ls) =
-    after-lines (answerTo h l .after) ls ∙ ap (λ (a : Answer). afterFrames ours (ofHeld (a .after)) (map frameIn ls)) (of-line h l)
+    after-lines (answerTo h l .after) ls ∙ ap (λ (a : LineAnswer). afterFrames ours (ofHeld (a .after)) (map frameIn ls)) (of-line h l)
 
 of-answers : (h : Held) (ls : List (List ℕ)) → answers h ls ≡ flatMap lineFor (answersTo ours (ofHeld h) (map frameIn ls))
 unfolding answers answersTo flatMap
 of-answers h [] = refl
 of-answers h (l ∷ ls) =
     ap (λ (t : List ℕ). lineFor (answerTo h l .octets) ++ t) (of-answers (answerTo h l .after) ls)
-    ∙ ap (λ (a : Answer). lineFor (a .octets) ++ flatMap lineFor (answersTo ours (ofHeld (a .after)) (map frameIn ls))) (of-line h l)
+    ∙ ap (λ (a : LineAnswer). lineFor (a .octets) ++ flatMap lineFor (answersTo ours (ofHeld (a .after)) (map frameIn ls))) (of-line h l)
 
 pub of-trace : (text : List ℕ) → traced text ≡ tracedBy ours blank text
 unfolding traced tracedBy

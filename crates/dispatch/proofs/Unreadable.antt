@@ -25,7 +25,7 @@ use Rattle.card.specs.Calls.{Call, Open, IssuerAnswer, Script, Close, Withdraw,
 use Rattle.card.specs.Personalise.{fresh, loading, loadedBy, personalised}
 use Rattle.lines.specs.declared.Held.{Held}
 use Rattle.lines.specs.Lines.{lastFrame, octetsOf, readable}
-use Rattle.lines.specs.Answers.{Answer, octetsFor}
+use Rattle.lines.specs.Answers.{LineAnswer, octetsFor}
 use Rattle.frames.specs.Frames.{overlong, answerTo}
 use Rattle.history.specs.Run.{Loading, personalisedWith, did, frame, ours}
 use Rattle.dispatch.specs.Dispatch.{Frame, unreadable, misfit, personalise, call, surplus, loadingIn, alone, frameOf}
@@ -197,4 +197,4 @@ of-unreadable h l = (go (readable l) refl, λ e. rw e)
         let s = drop 1 (octetsOf l) in
         let w : answerTo h l ≡ asAnswer (answered ours (ofHeld h) (frameOf f s)) = rw e (by-frame h f s (first-small l e)) in
         let n = not-answered (ofHeld h) (frameOf f s) (frame-read f s (first-small l e)) in
-        absurd (false≢true (sym n ∙ ap (λ (a : Answer). thirteen (first (a .octets))) (sym w) ∙ ap (λ (t : List ℕ). thirteen (first t)) p))
+        absurd (false≢true (sym n ∙ ap (λ (a : LineAnswer). thirteen (first (a .octets))) (sym w) ∙ ap (λ (t : List ℕ). thirteen (first t)) p))

@@ -8,7 +8,7 @@ use Rattle.card.specs.Calls.{Call, due}
 use Rattle.card.specs.Personalise.{blank}
 use Rattle.lines.specs.declared.Held.{Held}
 use Rattle.lines.specs.Lines.{readable}
-use Rattle.lines.specs.Answers.{holding, nothing, Answer, numbered}
+use Rattle.lines.specs.Answers.{holding, nothing, LineAnswer, numbered}
 use Rattle.frames.specs.Frames.{answerTo}
 use Rattle.trace.specs.Traced.{traced}
 use Rattle.history.specs.Run.{Loading, AnyBox, run, did, history, ours}
@@ -22,7 +22,7 @@ use Rattle.dispatch.specs.Behind.{HeldBy, withRecord, AnswerBy, accepts,
 abbrev pub ofHeld : Held → HeldBy ours
 ofHeld h = record { exists = h .exists; state = h .card }
 
-abbrev pub asAnswer : AnswerBy ours → Answer
+abbrev pub asAnswer : AnswerBy ours → LineAnswer
 asAnswer a = record { after = record { exists = a .after .exists; card = a .after .state }; octets = a .octets }
 
 unfoldable pub afterLines : Held → List (List ℕ) → Held

@@ -21,8 +21,8 @@ use Rattle.card.specs.Calls.{judged, due, after, plain, step, Open, IssuerAnswe
 use Rattle.card.specs.Personalise.{personalised}
 use Rattle.lines.specs.declared.Held.{Held}
 use Rattle.lines.specs.declared.Said.{Said}
-use Rattle.lines.specs.Lines.{longest, kept, lastFrame, legible, hexadecimal, octetsOf, readable}
-use Rattle.lines.specs.Answers.{Answer, holding, numbered, replied}
+use Rattle.lines.specs.Lines.{longest, keptSigns, lastFrame, legible, hexadecimal, octetsOf, readable}
+use Rattle.lines.specs.Answers.{LineAnswer, holding, numbered, replied}
 use Rattle.lines.specs.Said.{said}
 use Rattle.frames.specs.Frames.{part, personalisedBy, starts, overlong, bare, called, calling, framed, answerTo}
 
@@ -195,7 +195,7 @@ module _ (h : Held) (l b : List ℕ) (x : Said) (n : length l ≤ longest) (d : 
       ∙ rw (readable-so l n d (rw first-byte at f))
 
 -- the signs that are kept
-pub answer-long : (h : Held) (line : List ℕ) (n : ℕ) (x : Said) → length line ≡ kept → longest < n → x ≡ said (numbered h 13) → x ≡ said (answerTo h (take n line))
+pub answer-long : (h : Held) (line : List ℕ) (n : ℕ) (x : Said) → length line ≡ keptSigns → longest < n → x ≡ said (numbered h 13) → x ≡ said (answerTo h (take n line))
 answer-long h line n x l g e = unread h (take n line) x (readable-long (take n line) (simp length-take (omega arith))) e
 
 pub answer-foreign : (h : Held) (line : List ℕ) (n : ℕ) (x : Said) (b : Bool) → b ≡ hexadecimal (take n line) → not b ≡ true → x ≡ said (numbered h 13)

@@ -12,7 +12,7 @@ use Rattle.card.specs.Calls.{Open, IssuerAnswer, Script, Close, Withdraw, Count
 use Rattle.card.proofs.MasterLaws.{masters-stay}
 use Rattle.lines.specs.declared.Held.{Held}
 use Rattle.lines.specs.Lines.{octetsOf, readable}
-use Rattle.lines.specs.Answers.{Answer, numbered, replied}
+use Rattle.lines.specs.Answers.{LineAnswer, numbered, replied}
 use Rattle.frames.specs.Frames.{overlong, called, calling, framed, answerTo}
 
 masters-called : (r : Card) (f : ℕ) (s : List ℕ) → masters (called r f s .card) ≡ masters r

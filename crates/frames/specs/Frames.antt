@@ -15,7 +15,7 @@ use Rattle.card.specs.Calls.{plain, step, Open, IssuerAnswer, Script, Close, Wi
 use Rattle.card.specs.Personalise.{blank, personalised}
 use Rattle.lines.specs.declared.Held.{Held}
 use Rattle.lines.specs.Lines.{octetsOf, readable}
-use Rattle.lines.specs.Answers.{holding, Answer, numbered, replied}
+use Rattle.lines.specs.Answers.{holding, LineAnswer, numbered, replied}
 
 -- the n bytes from a place on
 unfoldable pub part : ℕ → ℕ → List ℕ → List ℕ
@@ -29,7 +29,7 @@ personalisedBy s =
     (plain blank (number Input))
 
 -- "A second accepted 00 starts a new history"; refused, it leaves the record
-unfoldable pub starts : Held → Reply → Answer
+unfoldable pub starts : Held → Reply → LineAnswer
 starts h p = cond (eqb (p .code) 0) (numbered (holding (p .card)) 0) (numbered h (p .code))
 
 -- 04 and 06 with bytes after: "phase comes first", then 1
@@ -50,13 +50,13 @@ called r f s =
     (cond (eqb f 5) (bare s (step r Withdraw) (plain r (number Input))) (bare s (step r Counters) (overlong r))))))
 
 -- "Before a record exists, frames 01 to 06 answer 6."
-unfoldable pub calling : Held → ℕ → List ℕ → Answer
+unfoldable pub calling : Held → ℕ → List ℕ → LineAnswer
 calling h f s = cond (h .exists) (replied f (called (h .card) f s)) (numbered h (number PhaseWrong))
 
 -- a frame: its first byte, and the rest
-unfoldable pub framed : Held → ℕ → List ℕ → Answer
+unfoldable pub framed : Held → ℕ → List ℕ → LineAnswer
 framed h f s = cond (eqb f 0) (starts h (personalisedBy s)) (calling h f s)
 
 -- a line
-unfoldable pub answerTo : Held → List ℕ → Answer
+unfoldable pub answerTo : Held → List ℕ → LineAnswer
 answerTo h l = cond (readable l) (framed h (getD (octetsOf l) 0 0) (drop 1 (octetsOf l))) (numbered h (number Unreadable))

@@ -6,7 +6,7 @@ use lib.Dec.{eqb}
 use lib.ListN.{replicate}
 use Rattle.transaction.specs.declared.Transaction.{Transaction}
 use Rattle.transaction.specs.declared.Phase.the-variants.{Aac}
-use Rattle.transaction.specs.Transaction.{isUnmarked, none, begun}
+use Rattle.transaction.specs.Transaction.{isUnmarked, none, justOpened}
 use Rattle.card.specs.declared.Card.{Card}
 use Rattle.card.specs.declared.Reply.{Reply}
 use Rattle.card.specs.Record.{withTransaction}
@@ -20,7 +20,7 @@ refusesEverything r c = plain r 1
 -- "One giving a constant cryptogram": all else is right
 abbrev pub zeroed : Card → List ℕ → Reply
 zeroed r d =
-    record { card = withTransaction (grown r) (begun (r .mark) (replicate 8 0)); code = 0; kind = step r (Open d) .kind; bytes = replicate 8 0 }
+    record { card = withTransaction (grown r) (justOpened (r .mark) (replicate 8 0)); code = 0; kind = step r (Open d) .kind; bytes = replicate 8 0 }
 
 abbrev pub constantCryptogram : Box
 constantCryptogram r (Open d) = cond (eqb (step r (Open d) .code) 0) (zeroed r d) (step r (Open d))

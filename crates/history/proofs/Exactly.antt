@@ -6,7 +6,7 @@ use mathlib.Core.Bool.{Bool, false}
 use mathlib.Core.Logic.{_↔_}
 use Rattle.card.specs.declared.Card.{Card}
 use Rattle.card.specs.Calls.{Call, Withdraw, Script, Answer, only, gives, due}
-use Rattle.history.specs.Run.{Loading, AnyBox, run, did, History, history, callsOf, taken}
+use Rattle.history.specs.Run.{Loading, AnyBox, run, did, History, history, callsOf, isCommand}
 use Rattle.history.specs.Demand2.{Accepts}
 use Rattle.history.specs.Ledger.{mustBe, ledger, loaded, afterCalls}
 use Rattle.history.specs.Demand3.{Fresh, struck, anyOf, SameButStruck}
@@ -28,11 +28,11 @@ module _ (b : AnyBox) (same : Same b any) (l : Loading) (f : Fresh l) where
       ap₂ {C = History} (λ x t. did c x ∷ t) (same .answers l before c f)
       (ap (λ (s : b .State). history b s cs) (sym e) ∙ histories (before ++ (c ∷ [])) cs ∙ ap (λ (s : Card). history any s cs) g)
 
-  strikes-so : (before between after : List Call) (choice : ℕ → Bool) → anyOf 4 between ≡ false → anyOf 5 between ≡ false → SameButStruck b (b .start l) before between after taken choice
+  strikes-so : (before between after : List Call) (choice : ℕ → Bool) → anyOf 4 between ≡ false → anyOf 5 between ≡ false → SameButStruck b (b .start l) before between after isCommand choice
   strikes-so before between after choice n4 n5 =
       let o = ours-meets-demands .third .struck-out l before between after choice f n4 n5 in
       let e = histories before between in
-      let left : History → List Call = λ h. before ++ (callsOf (struck taken choice h) ++ (Withdraw ∷ after)) in
+      let left : History → List Call = λ h. before ++ (callsOf (struck isCommand choice h) ++ (Withdraw ∷ after)) in
       let right : List Call = before ++ (between ++ (Withdraw ∷ after)) in
       let rest = histories (before ++ between) (Withdraw ∷ after) in
       record {
@@ -41,7 +41,7 @@ module _ (b : AnyBox) (same : Same b any) (l : Loading) (f : Fresh l) where
             histories [] (left (history b (reached b l before) between))
             ∙ ap (λ (h : History). history any (any .start l) (left h)) e
             ∙ o .the-answers
-            ∙ sym (ap₂ {C = History} (λ x y. x ++ y) (histories [] before) (ap₂ {C = History} (λ x y. x ++ y) (ap (struck taken choice) e) rest));
+            ∙ sym (ap₂ {C = History} (λ x y. x ++ y) (histories [] before) (ap₂ {C = History} (λ x y. x ++ y) (ap (struck isCommand choice) e) rest));
       }
 
 meets : (b : AnyBox) → Same b any → Demands b

@@ -26,7 +26,7 @@ use Rattle.transaction.specs.Transaction.{isOpen, isUnmarked, none, pendingFits
 use Rattle.card.specs.declared.Card.{Card}
 use Rattle.card.specs.declared.Reply.{Reply}
 use Rattle.card.specs.Record.{sound, kept, withTransaction, withKept}
-use Rattle.card.specs.Calls.{Call, Withdraw, read, Order, newPin, newMark, orders, pend, pendAll, laid, judged, unread, strikes, firstStruck, due, after, plain}
+use Rattle.card.specs.Calls.{Call, Withdraw, read, Order, newPin, newMark, orders, pend, pendAll, settled, judged, unread, strikes, firstStruck, due, after, plain}
 use Rattle.card.specs.Personalise.{fresh, loadedBy, personalised}
 use Rattle.history.proofs.Own.{box, run}
 use Rattle.history.specs.Run.{Loading, personalisedWith}
@@ -108,8 +108,8 @@ pend-all-sound [] r s a f = s
 pend-all-sound (o ∷ os) r s a f =
     pend-all-sound os (withTransaction r (pend o (r .transaction))) (pend-sound r o s a (f .0)) (pend-open o (r .transaction) ∙ a) (f .1)
 
-laid-fits : (r : Card) → Parts r → pinFits 0 (laid (r .transaction) (kept r) .count) (laid (r .transaction) (kept r) .pin) ≡ true
-unfolding laid pendingFits
+laid-fits : (r : Card) → Parts r → pinFits 0 (settled (r .transaction) (kept r) .count) (settled (r .transaction) (kept r) .pin) ≡ true
+unfolding settled pendingFits
 laid-fits r s = go (eqb (r .transaction .count) 0) (s .pended)
   where
     go : (b : Bool) → cond b (same (r .transaction .pin) (replicate 12 0)) (pinFits 0 (r .transaction .count) (r .transaction .pin)) ≡ true
@@ -133,7 +133,7 @@ keeps {r} s (spoiled q e n f) = whole _ (record { pinned = parts r s .pinned; pe
 keeps {r} s (differed w f) = whole _ (record { pinned = parts r s .pinned; pended = parts r s .pended; rested = open-rests _ (w .phase) })
 keeps {r} s (took a) = whole _ (pend-all-sound _ r (parts r s) (a .phase) (orders-fit a))
 keeps {r} s (dropped e p) = resting r (parts r s .pinned)
-keeps {r} s (closed e p) = resting (withKept r (laid (r .transaction) (kept r))) (laid-fits r (parts r s))
+keeps {r} s (closed e p) = resting (withKept r (settled (r .transaction) (kept r))) (laid-fits r (parts r s))
 keeps {r} s withdrew = resting r (parts r s .pinned)
 
 -- a record that starts sound stays sound; a fresh one is

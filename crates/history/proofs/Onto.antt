@@ -17,7 +17,7 @@ use Rattle.gost.specs.declared.Halves.{Halves}
 use Rattle.gost.specs.Gost.{rounds, exchanged, halves, block}
 use Rattle.gost.proofs.Rounds.{Words, rounds-back, rounds-words, exchanged-words}
 use Rattle.gost.proofs.Octets.{length-block, halves-block, halves-words}
-use Rattle.cipher.specs.Code.{added, step, start, state, codeOf}
+use Rattle.cipher.specs.Code.{added, codeStep, start, state, codeOf}
 use Rattle.cipher.proofs.CodeLaws.{code-continues}
 use Rattle.cryptogram.specs.declared.Kind.{Kind}
 use Rattle.cryptogram.specs.declared.Kind.the-variants.{Arqc, Tc, Aac}
@@ -44,8 +44,8 @@ module _ (ks : List ℕ) where
   unfoldable pub ahead : Halves → List ℕ → Halves
   ahead s b = added (undone s) (halves b)
 
-  step-ahead : (s : Halves) (b : List ℕ) → step ks (ahead s b) b ≡ s
-  unfolding ahead step added
+  step-ahead : (s : Halves) (b : List ℕ) → codeStep ks (ahead s b) b ≡ s
+  unfolding ahead codeStep added
   step-ahead s b =
       ap₂ (λ (x y : ℕ). rounds (ks ++ ks) (record { n1 = x; n2 = y })) (xor-twice (undone s .n1) (halves b .n1)) (xor-twice (undone s .n2) (halves b .n2))
       ∙ redone s
@@ -60,10 +60,10 @@ module _ (ks : List ℕ) where
   backwards zero s m = s
   backwards (suc n) s m = ahead (backwards n s (drop 8 m)) (take 8 m)
 
-  forwards : (n : ℕ) (s : Halves) (m : List ℕ) → taken 8 (step ks) n (backwards n s m) m ≡ s
+  forwards : (n : ℕ) (s : Halves) (m : List ℕ) → taken 8 (codeStep ks) n (backwards n s m) m ≡ s
   unfolding taken backwards
   forwards zero s m = refl
-  forwards (suc n) s m = ap (λ (a : Halves). taken 8 (step ks) n a (drop 8 m)) (step-ahead (backwards n s (drop 8 m)) (take 8 m)) ∙ forwards n s (drop 8 m)
+  forwards (suc n) s m = ap (λ (a : Halves). taken 8 (codeStep ks) n a (drop 8 m)) (step-ahead (backwards n s (drop 8 m)) (take 8 m)) ∙ forwards n s (drop 8 m)
 
   backwards-words : (n : ℕ) (s : Halves) (m : List ℕ) → length m ≡ n * 8 → Octets m → Words s → Words (backwards n s m)
   unfolding backwards
@@ -76,7 +76,7 @@ module _ (ks : List ℕ) where
   abbrev leading : ℕ → Halves → List ℕ → List ℕ
   leading n s m = block (undone (backwards n s m))
 
-  one-block : (x : Halves) → state ks (block x) ≡ step ks start (block x)
+  one-block : (x : Halves) → state ks (block x) ≡ codeStep ks start (block x)
   unfolding state absorbed taken block leOctets
   one-block x = refl
 
@@ -85,7 +85,7 @@ module _ (ks : List ℕ) where
   from-zeros x = ap₂ (λ (a b : ℕ). record { n1 = a; n2 = b }) (xor-zero-l (x .n1)) (xor-zero-l (x .n2))
 
   first-state : (x : Halves) → Words x → state ks (block (undone x)) ≡ x
-  unfolding step
+  unfolding codeStep
   first-state x w =
       one-block (undone x)
       ∙ ap (λ (y : Halves). rounds (ks ++ ks) (added start y)) (halves-block (undone x) (undone-words x w))
@@ -97,8 +97,8 @@ module _ (ks : List ℕ) where
   code-onto n s m e o w =
       let q : length m / 8 ≡ n = omega arith in
       code-continues ks 1 (leading n s m) m (length-block _)
-      ∙ ap (λ (a : Halves). absorbed 8 (step ks) a m) (first-state (backwards n s m) (backwards-words n s m e o w))
-      ∙ ap (λ (k : ℕ). taken 8 (step ks) k (backwards n s m) m) q
+      ∙ ap (λ (a : Halves). absorbed 8 (codeStep ks) a m) (first-state (backwards n s m) (backwards-words n s m e o w))
+      ∙ ap (λ (k : ℕ). taken 8 (codeStep ks) k (backwards n s m) m) q
       ∙ forwards n s m
 
 -- of the string under a cryptogram, the first eight octets are the terminal's

@@ -18,4 +18,4 @@ abbrev pub history : Card → List Call → runs.History
 history = runs.history any
 
 abbrev pub entry : Call → Reply → runs.Entry
-entry c a = runs.did c (runs.said a)
+entry c a = runs.did c (runs.answerOf a)

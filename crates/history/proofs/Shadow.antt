@@ -25,9 +25,9 @@ use Rattle.card.specs.declared.Card.{Card}
 use Rattle.card.specs.declared.Reply.{Reply}
 use Rattle.card.specs.Record.{sound, Kept, kept, withTransaction, withKept, withCounters}
 use Rattle.card.specs.Keys.{smcKey}
-use Rattle.card.specs.Calls.{Call, Open, IssuerAnswer, Script, Close, Withdraw, Counters, read, grown, cryptogramFor, only, due, Order, newPin, newMark, orders, pend, pendAll, laid}
+use Rattle.card.specs.Calls.{Call, Open, IssuerAnswer, Script, Close, Withdraw, Counters, read, grown, cryptogramFor, only, due, Order, newPin, newMark, orders, pend, pendAll, settled}
 use Rattle.history.proofs.Own.{any, box, entry, run}
-use Rattle.history.specs.Run.{Loading, Entry, did, History, frame, was, opened as isOpened, answered as isAnswered, failed as isFailed}
+use Rattle.history.specs.Run.{Loading, Entry, did, History, frame, was, isOpening as isOpened, isAnswer as isAnswered, isFailure as isFailed}
 use Rattle.history.specs.Demand2.{Accepts}
 use Rattle.history.specs.Ledger.{howMany, since, ordersIn, Page, turned, page, madeGood, good, obeyed, allObeyed, keptBy, atcBy, countersBy, transactionBy, mustBe, ledger, loaded, afterCalls}
 use Rattle.history.specs.Demand3.{Fresh}
@@ -44,8 +44,8 @@ pend-append : (x y : List Order) (t : Transaction) → pendAll (x ++ y) t ≡ pe
 pend-append [] y t = refl
 pend-append (o ∷ x) y t = pend-append x y (pend o t)
 
-pend-laid : (t : Transaction) (k : Kept) (o : Order) → Fit o → laid (pend o t) k ≡ obeyed o (laid t k)
-unfolding laid Fit
+pend-laid : (t : Transaction) (k : Kept) (o : Order) → Fit o → settled (pend o t) k ≡ obeyed o (settled t k)
+unfolding settled Fit
 pend-laid t k (newPin p n) f = rw (pin-count n p f)
 pend-laid t k (newMark true) f = refl
 pend-laid t k (newMark false) f = refl
@@ -55,7 +55,7 @@ unfolding Fits
 fits-append [] y f g = g
 fits-append (o ∷ x) y f g = (f .0, fits-append x y (f .1) g)
 
-all-laid : (os : List Order) (t : Transaction) (k : Kept) → Fits os → laid (pendAll os t) k ≡ allObeyed os (laid t k)
+all-laid : (os : List Order) (t : Transaction) (k : Kept) → Fits os → settled (pendAll os t) k ≡ allObeyed os (settled t k)
 unfolding Fits
 all-laid [] t k f = refl
 all-laid (o ∷ os) t k f = all-laid os (pend o t) k (f .1) ∙ ap (allObeyed os) (pend-laid t k o (f .0))
@@ -187,8 +187,8 @@ module _ (r : Card) (t : History) (tied : Tied r t) where
   unfolding mustBe
   spoilt-so = left (p .ordered) _ .spoil
 
-  laid-so : laid (s .transaction) (kept s) ≡ allObeyed (p .ordered) (kept s)
-  unfolding mustBe laid
+  laid-so : settled (s .transaction) (kept s) ≡ allObeyed (p .ordered) (kept s)
+  unfolding mustBe settled
   laid-so = all-laid (p .ordered) _ (kept s) (tied .fits)
 
   none-so : isOpen (s .transaction .phase) ≡ false → s .transaction ≡ none

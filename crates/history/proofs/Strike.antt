@@ -24,7 +24,7 @@ use Rattle.card.specs.Keys.{sessionKeyOf, smiKey, smcKey, counterKeyOf}
 use Rattle.card.specs.Calls.{Call, Open, IssuerAnswer, Script, Close, Withdraw, Counters, Verdict, refuse, accept, read, judgedScript, judged, arpcFor, cryptogramFor, countersFor}
 use Rattle.card.specs.Calls.{only, Order, newPin, newMark, orders, pend, pendAll, refused, reply, plain}
 use Rattle.history.proofs.Own.{any, box, entry, history, run}
-use Rattle.history.specs.Run.{Loading, Entry, did, History, callsOf, frame, taken}
+use Rattle.history.specs.Run.{Loading, Entry, did, History, callsOf, frame, isCommand}
 use Rattle.history.specs.Demand3.{Fresh, struck, anyOf, SameButStruck, StrikeLaw}
 use Rattle.history.proofs.Change.{by, step-by, change}
 use Rattle.history.proofs.Keeps.{neither, keeps, parts, whole, sound-law, fresh-law}
@@ -188,13 +188,13 @@ strike-by test ok r a b d ps s n4 n5 =
           (history-append r₀ (callsOf y) _ ∙ ap₂ {C = History} (λ u v. u ++ v) (f .0) (ap (λ (x : Reply). entry Withdraw x ∷ history (x .card) d) w ∙ ap (λ (x : Card). history x (Withdraw ∷ d)) e));
     }
 
-taken-harmless : (e : Entry) → taken e ≡ true → harmless e ≡ true
+taken-harmless : (e : Entry) → isCommand e ≡ true → harmless e ≡ true
 taken-harmless (did c a) w =
     let p = and-eq-true-iff (eqb (frame c) 3) _ .0 w in
     rw (p .0, eqb-true (a .number) 0 (p .1))
 
 pub strike-law : StrikeLaw any
-strike-law l a b d ps f n4 n5 = strike-by taken taken-harmless (any .start l) a b d ps (fresh-law l f) n4 n5
+strike-law l a b d ps f n4 n5 = strike-by isCommand taken-harmless (any .start l) a b d ps (fresh-law l f) n4 n5
 
 -- the same of any choice of Script calls that were not answered 8, of which the accepted ones are a part
 pub strike-any-law : (l : Loading) (before between after : List Call) (choice : ℕ → Bool) → Fresh l → anyOf 4 between ≡ false → anyOf 5 between ≡ false

@@ -37,10 +37,10 @@ use Rattle.card.specs.declared.Card.{Card}
 use Rattle.card.specs.declared.Reply.{Reply}
 use Rattle.card.specs.Record.{sound, kept, withTransaction}
 use Rattle.card.specs.Keys.{sessionKeyOf, smiKey}
-use Rattle.card.specs.Calls.{Call, Open, Script, Close, Counters, Verdict, accept, read, judged, Answer, grown, cryptogramFor, gives, newMark, orders, pend, pendAll, laid, accepted, due, reply, plain, step}
+use Rattle.card.specs.Calls.{Call, Open, Script, Close, Counters, Verdict, accept, read, judged, Answer, grown, cryptogramFor, gives, newMark, orders, pend, pendAll, settled, accepted, due, reply, plain, step}
 use Rattle.card.specs.Personalise.{personalised}
 use Rattle.history.specs.Run as runs
-use Rattle.history.specs.Run.{Loading, Box, said, boxed}
+use Rattle.history.specs.Run.{Loading, Box, answerOf, boxed}
 use Rattle.history.specs.Demand2.{Reached, Accepts}
 use Rattle.history.specs.Ledger.{loaded, afterCalls}
 use Rattle.history.specs.Demand3.{Fresh}
@@ -191,8 +191,8 @@ blocking-closes : step blocking-card Close ≡ plain (accepted blocking-card Clo
 blocking-closes = closes-well blocking-card blocking-sound blocking-open blocking-spoilt
 
 blocked : step blocking-card Close .card .mark ≡ true
-unfolding laid
-blocked = ap (λ (a : Reply). a .card .mark) blocking-closes ∙ ap (λ (r : Card). laid (r .transaction) (kept r) .mark) as-blocking
+unfolding settled
+blocked = ap (λ (a : Reply). a .card .mark) blocking-closes ∙ ap (λ (r : Card). settled (r .transaction) (kept r) .mark) as-blocking
 
 -- what ours shows after some calls of the fresh record is what the ledger says
 ledger-says : (cs : List Call) → run first-card cs ≡ afterCalls first-loading cs
@@ -210,9 +210,9 @@ module _ (b : Box) (cs : List Call) where
   must-accept law h m a =
       sym (from-start (λ (r : Card). b r (Script h m) .code)) ∙ law .accepted first-loading cs h m is-fresh .1 (subst (λ (r : Card). Accepts r h m) (ledger-says cs) a)
 
-  must-give : Demand2 (boxed b) → (c : Call) → b its c .code ≡ 0 → said (b its c) ≡ gives (run first-card cs) c
+  must-give : Demand2 (boxed b) → (c : Call) → b its c .code ≡ 0 → answerOf (b its c) ≡ gives (run first-card cs) c
   must-give law c z =
-      sym (from-start (λ (r : Card). said (b r c)))
+      sym (from-start (λ (r : Card). answerOf (b r c)))
       ∙ law .given first-loading cs c is-fresh (from-start (λ (r : Card). b r c .code) ∙ z)
       ∙ ap (λ (r : Card). gives r c) (sym (ledger-says cs))
 
@@ -263,8 +263,8 @@ unblocking-closes =
     (ap (λ (r : Card). r .transaction .spoilt) as-unblocking ∙ blocking-spoilt)
 
 unblocked : step unblocking-card Close .card .mark ≡ false
-unfolding laid
-unblocked = ap (λ (a : Reply). a .card .mark) unblocking-closes ∙ ap (λ (r : Card). laid (r .transaction) (kept r) .mark) as-unblocking
+unfolding settled
+unblocked = ap (λ (a : Reply). a .card .mark) unblocking-closes ∙ ap (λ (r : Card). settled (r .transaction) (kept r) .mark) as-unblocking
 
 -- with nothing pending it takes the first, and then no more
 first-taken : firstOnly opened-card (Script (headerOf SetMark) block) ≡ step opened-card (Script (headerOf SetMark) block)

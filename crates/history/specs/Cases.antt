@@ -15,7 +15,7 @@ use Rattle.pin.specs.declared.PinRead.{PinRead}
 use Rattle.pin.specs.Answers.{noPin}
 use Rattle.cryptogram.specs.declared.Kind.the-variants.{Arqc, Aac}
 use Rattle.cryptogram.specs.Cryptogram.{cryptogramOf, arpcOf}
-use Rattle.transaction.specs.Transaction.{none, spoilt, begun}
+use Rattle.transaction.specs.Transaction.{none, spoilt, justOpened}
 use Rattle.card.specs.declared.Card.{Card}
 use Rattle.card.specs.declared.Reply.{Reply}
 use Rattle.card.specs.Record.{cardOf, countersAt, withTransaction}
@@ -66,7 +66,7 @@ pub record Cases : Type 0 where
   -- "6 .. other calls but Withdraw with none open; issuer answer after an AAC", "9 .. PIN block format wrong", "11 .. ARPC differs"
   pub close-6 : step idle Close ≡ plain idle 6
   pub counters-6 : step idle Counters ≡ plain idle 6
-  pub answer-aac : let r = withTransaction idle (begun true (replicate 8 0)) in step r (IssuerAnswer (replicate 8 0) (replicate 4 0)) ≡ plain r 6
+  pub answer-aac : let r = withTransaction idle (justOpened true (replicate 8 0)) in step r (IssuerAnswer (replicate 8 0) (replicate 4 0)) ≡ plain r 6
   pub script-9 : (h m : List ℕ) → dueBy (openAt 0) (Script h m) (judgedScript (openAt 0) (replicate 4 0) pinUnread) ≡ only 9
   pub answer-11 : (arpc csu : List ℕ) → length arpc ≡ 8 → length csu ≡ 4 → same arpc (arpcFor (openAt 0) csu) ≡ false → step (openAt 0) (IssuerAnswer arpc csu) ≡ plain (openAt 0) 11
   -- "Withdraw: drops what is pending and ends the transaction."

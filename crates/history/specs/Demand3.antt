@@ -6,7 +6,7 @@ use mathlib.Core.List.{List, [], _∷_, _++_}
 use lib.Dec.{eqb}
 use Rattle.card.specs.Record.{kept}
 use Rattle.card.specs.Calls.{Call, Withdraw}
-use Rattle.history.specs.Run.{Loading, personalisedWith, AnyBox, run, Entry, History, history, callsOf, frame, taken}
+use Rattle.history.specs.Run.{Loading, personalisedWith, AnyBox, run, Entry, History, history, callsOf, frame, isCommand}
 
 -- "any freshly personalised record": the personalisation is accepted
 abbrev pub Fresh : Loading → Type 0
@@ -35,7 +35,7 @@ pub record SameButStruck (b : AnyBox) (s : b .State) (before between after : Lis
 abbrev pub StrikeLaw : AnyBox → Type 0
 StrikeLaw b =
     (l : Loading) (before between after : List Call) (choice : ℕ → Bool) → Fresh l → anyOf 4 between ≡ false → anyOf 5 between ≡ false
-    → SameButStruck b (b .start l) before between after taken choice
+    → SameButStruck b (b .start l) before between after isCommand choice
 
 -- "Our old box then showed a PIN from the new moment beside a block mark from the old one": nothing but a Close changes what is kept; what
 -- a Close makes of it the ledger says

@@ -4,7 +4,7 @@ use mathlib.Core.Path.{_≡_}
 use mathlib.Core.Logic.{_↔_}
 use mathlib.Core.List.{List}
 use Rattle.card.specs.Calls.{Call, Script, Answer, only, gives, due}
-use Rattle.history.specs.Run.{Loading, personalisedWith, AnyBox, run, said}
+use Rattle.history.specs.Run.{Loading, personalisedWith, AnyBox, run, answerOf}
 use Rattle.history.specs.Demand2.{Accepts}
 use Rattle.history.specs.Ledger.{afterCalls}
 use Rattle.history.specs.Demand3.{Fresh, StrikeLaw}
@@ -19,7 +19,7 @@ answer b l cs c = b .answer (reached b l cs) c
 -- 1. "Each bad input gets the numbered refusal of paper 01." "A refusal returns its number only." That it "changes the record only where the papers say
 -- so" is demand 3's the-record
 pub record Demand1 (b : AnyBox) : Type 0 where
-  pub personalisation : (l : Loading) → b .welcome l ≡ said (personalisedWith l)
+  pub personalisation : (l : Loading) → b .welcome l ≡ answerOf (personalisedWith l)
   pub numbers : (l : Loading) (cs : List Call) (c : Call) → Fresh l → answer b l cs c .number ≡ due (afterCalls l cs) c .number
   pub refusals : (l : Loading) (cs : List Call) (c : Call) → Fresh l → (answer b l cs c .number ≡ 0 → ⊥) → answer b l cs c ≡ only (answer b l cs c .number)
 

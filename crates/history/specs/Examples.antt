@@ -12,7 +12,7 @@ use Rattle.answers.specs.Answers.{aBlock}
 use Rattle.pin.specs.Answers.{noPin, writePin, readPin}
 use Rattle.cryptogram.specs.declared.Kind.the-variants.{Arqc, Tc, Aac}
 use Rattle.cryptogram.specs.Data.{cardData}
-use Rattle.transaction.specs.Transaction.{none, spoilt, begun}
+use Rattle.transaction.specs.Transaction.{none, spoilt, justOpened}
 use Rattle.card.specs.declared.Card.{Card}
 use Rattle.card.specs.Record.{cardOf, countersAt, withTransaction}
 use Rattle.card.specs.Calls.{Open, Close, Withdraw, Order, newPin, newMark, pendAll, plain, step}
@@ -32,10 +32,10 @@ abbrev pub idle : Card
 idle = cardAt 1 1 0
 
 abbrev pub openAt : ℕ → Card
-openAt failures = withTransaction (cardAt 1 1 failures) (begun false (replicate 8 0))
+openAt failures = withTransaction (cardAt 1 1 failures) (justOpened false (replicate 8 0))
 
 abbrev pub spoiltAt : ℕ → List Order → Card
-spoiltAt failures os = withTransaction (cardAt 1 1 failures) (spoilt (pendAll os (begun false (replicate 8 0))))
+spoiltAt failures os = withTransaction (cardAt 1 1 failures) (spoilt (pendAll os (justOpened false (replicate 8 0))))
 
 -- a new PIN and the mark
 abbrev pub both : List Order

@@ -19,7 +19,7 @@ use Rattle.transaction.specs.Transaction.{isOpen}
 use Rattle.card.specs.declared.Card.{Card}
 use Rattle.card.specs.Record.{Kept, kept, withTransaction, withKept, withCounters}
 use Rattle.card.specs.Calls.{Call, Open, IssuerAnswer, Script, Close, Withdraw, Counters, Answer, due, Order, newPin, newMark, orders, pendAll}
-use Rattle.history.specs.Run.{Loading, personalisedWith, Entry, did, History, frame, opened, answered, failed}
+use Rattle.history.specs.Run.{Loading, personalisedWith, Entry, did, History, frame, isOpening, isAnswer, isFailure}
 
 -- how many lines pass a test; and how many since the last that passes another, added to a start if there was none
 abbrev pub howMany : (Entry → Bool) → History → ℕ
@@ -93,15 +93,15 @@ keptBy r t = allObeyed (good r t) (kept r)
 
 -- "The transaction counter has grown by the accepted openings,"
 abbrev pub atcBy : Card → History → ℕ
-atcBy r t = r .atc + howMany opened t
+atcBy r t = r .atc + howMany isOpening t
 
 -- "the script failure counter by the Script calls refused with 8, and the session counter holds the accepted openings since the last accepted
 -- issuer answer, added to its start if there was none."
 abbrev pub countersBy : Card → History → CounterStruct
 countersBy r t =
     record {
-      session = since answered opened (r .counters .session) t;
-      failures = r .counters .failures + howMany failed t;
+      session = since isAnswer isOpening (r .counters .session) t;
+      failures = r .counters .failures + howMany isFailure t;
       decipherments = r .counters .decipherments;
       authentications = r .counters .authentications;
     }

@@ -62,24 +62,24 @@ abbrev pub was : ℕ → ℕ → Entry → Bool
 was f number (did c a) = eqb (frame c) f && eqb (a .number) number
 
 -- an accepted opening, an accepted issuer answer, an accepted script, a script refused with 8
-abbrev pub opened : Entry → Bool
-opened e = was 1 0 e
+abbrev pub isOpening : Entry → Bool
+isOpening e = was 1 0 e
 
-abbrev pub answered : Entry → Bool
-answered e = was 2 0 e
+abbrev pub isAnswer : Entry → Bool
+isAnswer e = was 2 0 e
 
-abbrev pub taken : Entry → Bool
-taken e = was 3 0 e
+abbrev pub isCommand : Entry → Bool
+isCommand e = was 3 0 e
 
-abbrev pub failed : Entry → Bool
-failed e = was 3 8 e
+abbrev pub isFailure : Entry → Bool
+isFailure e = was 3 8 e
 
 -- a box whose state is the record, which each call hands back: ours is the one of step, which every method of the card is proved to be
 abbrev pub Box : Type 0
 Box = Card → Call → Reply
 
-abbrev pub said : Reply → Answer
-said a = record { number = a .code; kind = a .kind; bytes = a .bytes }
+abbrev pub answerOf : Reply → Answer
+answerOf a = record { number = a .code; kind = a .kind; bytes = a .bytes }
 
 abbrev pub personalisedWith : Loading → Reply
 personalisedWith l = personalised (l .ac) (l .smi) (l .smc) (l .atc) (l .counters) (l .mark) (l .block)
@@ -88,9 +88,9 @@ abbrev pub boxed : Box → AnyBox
 boxed b =
     record {
       State = Card;
-      welcome = λ l. said (personalisedWith l);
+      welcome = λ l. answerOf (personalisedWith l);
       start = λ l. personalisedWith l .card;
-      answer = λ r c. said (b r c);
+      answer = λ r c. answerOf (b r c);
       after = λ r c. b r c .card;
       shown = λ r. r;
     }

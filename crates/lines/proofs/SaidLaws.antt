@@ -12,15 +12,15 @@ use Rattle.card.specs.Personalise.{personalised}
 use Rattle.lines.specs.declared.Held.{Held}
 use Rattle.lines.specs.declared.Said.{Said}
 use Rattle.lines.specs.Lines.{hexText, lineFor}
-use Rattle.lines.specs.Answers.{Answer, holding, nothing, numbered, octetsFor, replied}
-use Rattle.lines.specs.Said.{longestAnswer, padded, said}
+use Rattle.lines.specs.Answers.{LineAnswer, holding, nothing, numbered, octetsFor, replied}
+use Rattle.lines.specs.Said.{longestAnswer, filledTo, said}
 
 -- the number alone
 pub short-said : (h : Held) (n : ℕ) (c : List ℕ) → c ≡ hexOctet n
     → _≡_ {A = Said}
     (record { held = h; count = 3; answer = set (set (set (replicate longestAnswer 0) 0 (getD c 0 0)) 1 (getD c 1 0)) 2 10 })
     (said (numbered h n))
-unfolding hexOctet hexText lineFor padded said
+unfolding hexOctet hexText lineFor filledTo said
 short-said h n c e = rw e
 
 -- four octets
@@ -49,11 +49,11 @@ module _ (h : Held) (bytes x y : List ℕ) (l : length bytes ≡ 8)
       → _≡_ {A = Said}
       (record { held = h; count = 21; answer = 48 ∷ 48 ∷ getD k 0 0 ∷ getD k 1 0 ∷ eight x y (10 ∷ []) })
       (said (record { after = h; octets = 0 ∷ kind ∷ bytes }))
-  unfolding hexDigit hexOctet hexText lineFor padded said
+  unfolding hexDigit hexOctet hexText lineFor filledTo said
   opened-said kind k g =
       sym
       (ap
-      (λ (s : List ℕ). record { held = h; count = length (48 ∷ 48 ∷ hexDigit (kind / 16) ∷ hexDigit (kind % 16) ∷ (s ++ 10 ∷ [])); answer = padded longestAnswer (48 ∷ 48 ∷ hexDigit (kind / 16) ∷ hexDigit (kind % 16) ∷ (s ++ 10 ∷ [])) })
+      (λ (s : List ℕ). record { held = h; count = length (48 ∷ 48 ∷ hexDigit (kind / 16) ∷ hexDigit (kind % 16) ∷ (s ++ 10 ∷ [])); answer = filledTo longestAnswer (48 ∷ 48 ∷ hexDigit (kind / 16) ∷ hexDigit (kind % 16) ∷ (s ++ 10 ∷ [])) })
       text
       ∙ ap
       (λ (o : List ℕ). record { held = h; count = 21; answer = 48 ∷ 48 ∷ getD o 0 0 ∷ getD o 1 0 ∷ eight x y (10 ∷ []) })
@@ -62,11 +62,11 @@ module _ (h : Held) (bytes x y : List ℕ) (l : length bytes ≡ 8)
   pub counted-said : _≡_ {A = Said}
       (record { held = h; count = 19; answer = 48 ∷ 48 ∷ eight x y (10 ∷ 0 ∷ 0 ∷ []) })
       (said (record { after = h; octets = 0 ∷ bytes }))
-  unfolding hexDigit hexOctet hexText lineFor padded said
+  unfolding hexDigit hexOctet hexText lineFor filledTo said
   counted-said =
       sym
       (ap
-      (λ (s : List ℕ). record { held = h; count = length (48 ∷ 48 ∷ (s ++ 10 ∷ [])); answer = padded longestAnswer (48 ∷ 48 ∷ (s ++ 10 ∷ [])) })
+      (λ (s : List ℕ). record { held = h; count = length (48 ∷ 48 ∷ (s ++ 10 ∷ [])); answer = filledTo longestAnswer (48 ∷ 48 ∷ (s ++ 10 ∷ [])) })
       text)
 
 -- the answer to a frame that the card judged

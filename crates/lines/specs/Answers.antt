@@ -16,12 +16,12 @@ abbrev pub nothing : Held
 nothing = record { exists = false; card = blank }
 
 -- what a line is answered: the record after it, if there is one, and the octets of the answer
-pub record Answer : Type 0 where
+pub record LineAnswer : Type 0 where
   pub after : Held
   pub octets : List ℕ
 
 -- the number alone
-abbrev pub numbered : Held → ℕ → Answer
+abbrev pub numbered : Held → ℕ → LineAnswer
 numbered h n = record { after = h; octets = n ∷ [] }
 
 -- "the number as a byte, then for an accepted 01 80 (ARQC) or 00 (AAC) and the cryptogram, for an accepted 06 the 8 bytes"
@@ -31,5 +31,5 @@ octetsFor f p =
     (cond (eqb f 1) (0 ∷ p .kind ∷ p .bytes) (cond (eqb f 6) (0 ∷ p .bytes) (0 ∷ [])))
     (p .code ∷ [])
 
-unfoldable pub replied : ℕ → Reply → Answer
+unfoldable pub replied : ℕ → Reply → LineAnswer
 replied f p = record { after = holding (p .card); octets = octetsFor f p }

@@ -11,8 +11,8 @@ abbrev pub longest : ℕ
 longest = 538
 
 -- of a longer line one sign more is kept
-abbrev pub kept : ℕ
-kept = longest + 1
+abbrev pub keptSigns : ℕ
+keptSigns = longest + 1
 
 -- "a first byte above 06 .. is 13"
 abbrev pub lastFrame : ℕ

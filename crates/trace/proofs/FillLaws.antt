@@ -11,18 +11,18 @@ use lib.ListN.{length, getD, set, take, drop, replicate, length-append, length-d
 use lib.Seq.{take-all, drop-cons, drop-drop, length-take-le, paste, paste-suc, length-paste, take-paste, drop-paste}
 use borrow.Author.Tests.{le-leb, lt-leb, leb-true, leb-false}
 use Rattle.lines.specs.Lines.{lineFor}
-use Rattle.lines.specs.Said.{padded, said, longestAnswer}
+use Rattle.lines.specs.Said.{filledTo, said, longestAnswer}
 use Rattle.frames.specs.Frames.{answerTo}
 use Rattle.frames.proofs.FrameLaws.{rest-all}
 use Rattle.trace.specs.declared.Trace.{Trace}
 use Rattle.trace.specs.declared.Fed.{Fed}
 use Rattle.trace.specs.declared.Filled.{Filled}
-use Rattle.trace.specs.Feeding.{lineOf, extended, resting, completed, fedFrom, fed, ended, answerIn, afterAll, answersAll, Run, runFrom, run, Fills}
+use Rattle.trace.specs.Feeding.{lineOf, extended, resting, completed, fedFrom, fed, ended, answerIn, afterAll, answersAll, Filling, fillingFrom, filling, Fills}
 use Rattle.trace.proofs.TraceLaws.{Split, fed-line, either}
 
 -- an answer is no longer than its array
 completed-count : (t : Trace) (n : ℕ) → completed t n .count ≤ length (completed t n .answer)
-unfolding completed said padded
+unfolding completed said filledTo
 completed-count t n = simp length-append (omega arith)
 
 fed-count : (s : List ℕ) (t : Trace) (n : ℕ) → fedFrom t n s .count ≤ length (fedFrom t n s .answer)
@@ -53,7 +53,7 @@ pub record At (t : Trace) (s d₀ d : List ℕ) (u : Trace) (k w : ℕ) : Type 0
   pub room : length d ≡ length d₀
   pub written : w ≤ length d
   pub rest : drop w d ≡ drop w d₀
-  pub runs : runFrom (length d₀) u k (take w d) (drop k s) ≡ run (length d₀) t s
+  pub runs : fillingFrom (length d₀) u k (take w d) (drop k s) ≡ filling (length d₀) t s
 
 pub at-first : (t : Trace) (s d : List ℕ) → At t s d d t 0 0
 at-first t s d = record { taken = omega arith; room = refl; written = omega arith; rest = refl; runs = refl }
@@ -63,7 +63,7 @@ take-drop zero d = refl
 take-drop (suc w) [] = refl
 take-drop (suc w) (x ∷ d) = ap (λ (s : List ℕ). x ∷ s) (take-drop w d)
 
-fills-of : (q : Run) (d₀ d : List ℕ) (u : Trace) (k w : ℕ) → w ≤ length d → drop w d ≡ drop w d₀ → q ≡ record { trace = u; taken = k; text = take w d }
+fills-of : (q : Filling) (d₀ d : List ℕ) (u : Trace) (k w : ℕ) → w ≤ length d → drop w d ≡ drop w d₀ → q ≡ record { trace = u; taken = k; text = take w d }
     → Fills q d₀ (record { trace = u; taken = k; written = w }) d
 fills-of q d₀ d u k w h e g =
     rw g
@@ -72,23 +72,23 @@ fills-of q d₀ d u k w h e g =
       bytes = rw (length-take-le w d h) (sym (ap (λ (s : List ℕ). take w d ++ s) (sym e) ∙ take-drop w d));
     })
 
-stopped : (size : ℕ) (u : Trace) (k : ℕ) (v s : List ℕ) → size < length v + longestAnswer → runFrom size u k v s ≡ record { trace = u; taken = k; text = v }
-unfolding runFrom
+stopped : (size : ℕ) (u : Trace) (k : ℕ) (v s : List ℕ) → size < length v + longestAnswer → fillingFrom size u k v s ≡ record { trace = u; taken = k; text = v }
+unfolding fillingFrom
 stopped size u k v [] h = refl
 stopped size u k v (b ∷ s) h = rw (lt-leb _ _ h)
 
 pub fills-end : (t : Trace) (s d₀ d : List ℕ) (u : Trace) (k w : ℕ) → At t s d₀ d u k w → length s ≤ k
-    → Fills (run (length d₀) t s) d₀ (record { trace = u; taken = k; written = w }) d
-unfolding runFrom
+    → Fills (filling (length d₀) t s) d₀ (record { trace = u; taken = k; written = w }) d
+unfolding fillingFrom
 fills-end t s d₀ d u k w a h =
-    fills-of (run (length d₀) t s) d₀ d u k w (a .written) (a .rest)
-    (sym (a .runs) ∙ ap (runFrom (length d₀) u k (take w d)) (drop-of-length-le s {i = k} h))
+    fills-of (filling (length d₀) t s) d₀ d u k w (a .written) (a .rest)
+    (sym (a .runs) ∙ ap (fillingFrom (length d₀) u k (take w d)) (drop-of-length-le s {i = k} h))
 
 pub fills-full : (t : Trace) (s d₀ d : List ℕ) (u : Trace) (k w : ℕ) → At t s d₀ d u k w → length d - w < 21
-    → Fills (run (length d₀) t s) d₀ (record { trace = u; taken = k; written = w }) d
+    → Fills (filling (length d₀) t s) d₀ (record { trace = u; taken = k; written = w }) d
 fills-full t s d₀ d u k w a h =
     let m : length d₀ < length (take w d) + longestAnswer = rw (length-take-le w d (a .written)) (omega (arith, a .room, a .written)) in
-    fills-of (run (length d₀) t s) d₀ d u k w (a .written) (a .rest) (sym (a .runs) ∙ stopped (length d₀) u k (take w d) (drop k s) m)
+    fills-of (filling (length d₀) t s) d₀ d u k w (a .written) (a .rest) (sym (a .runs) ∙ stopped (length d₀) u k (take w d) (drop k s) m)
 
 -- what a line that is fed takes and answers
 module _ (s : List ℕ) (u : Trace) (k : ℕ) (f : Fed) (q : f ≡ fed u (take (length s - k) (drop k s))) where
@@ -135,14 +135,14 @@ at-turn t s d₀ d e u k w n f a l r q c m o p =
           ∙ ap (drop n) (a .rest)
           ∙ drop-drop n w d₀;
       runs =
-          ap₂ (λ (o : ℕ) (v : List ℕ). runFrom (length d₀) (f .trace) (k + o) v (drop (k + f .taken) s)) y g
-          ∙ ap (runFrom (length d₀) (f .trace) (k + z) (take w d ++ answerIn f)) j
+          ap₂ (λ (o : ℕ) (v : List ℕ). fillingFrom (length d₀) (f .trace) (k + o) v (drop (k + f .taken) s)) y g
+          ∙ ap (fillingFrom (length d₀) (f .trace) (k + z) (take w d ++ answerIn f)) j
           ∙ sym (x .run (length d₀) k (take w d) (rw (length-take-le w d (a .written)) (omega (arith, a .room, a .written))))
           ∙ a .runs;
     }
 
 -- what a run takes, and what it answers: as many bytes as there is room for
-pub record Ran (size : ℕ) (t : Trace) (n : ℕ) (w s : List ℕ) (q : Run) : Type 0 where
+pub record Ran (size : ℕ) (t : Trace) (n : ℕ) (w s : List ℕ) (q : Filling) : Type 0 where
   pub count : ℕ
   pub taken : q .taken ≡ n + count
   pub within : count ≤ length s
@@ -151,8 +151,8 @@ pub record Ran (size : ℕ) (t : Trace) (n : ℕ) (w s : List ℕ) (q : Run) : T
   pub some : length w + longestAnswer ≤ size → 0 < length s → 0 < count
   pub stops : count < length s → size < length (q .text) + longestAnswer
 
-ran-none : (size : ℕ) (t : Trace) (n : ℕ) (w : List ℕ) → Ran size t n w [] (runFrom size t n w [])
-unfolding runFrom afterAll answersAll
+ran-none : (size : ℕ) (t : Trace) (n : ℕ) (w : List ℕ) → Ran size t n w [] (fillingFrom size t n w [])
+unfolding fillingFrom afterAll answersAll
 ran-none size t n w =
     record {
       count = 0;
@@ -165,8 +165,8 @@ ran-none size t n w =
     }
 
 ran-full : (size : ℕ) (t : Trace) (n : ℕ) (w : List ℕ) (b : ℕ) (s : List ℕ) → leb (length w + longestAnswer) size ≡ false
-    → Ran size t n w (b ∷ s) (runFrom size t n w (b ∷ s))
-unfolding runFrom afterAll answersAll
+    → Ran size t n w (b ∷ s) (fillingFrom size t n w (b ∷ s))
+unfolding fillingFrom afterAll answersAll
 ran-full size t n w b s e =
     let l : size < length w + longestAnswer = leb-false _ _ e in
     rw e
@@ -181,9 +181,9 @@ ran-full size t n w b s e =
     })
 
 ran-more : (size : ℕ) (t : Trace) (n : ℕ) (w : List ℕ) (b : ℕ) (s : List ℕ) → leb (length w + longestAnswer) size ≡ true
-    → Ran size (fed t (b ∷ []) .trace) (n + 1) (w ++ answerIn (fed t (b ∷ []))) s (runFrom size (fed t (b ∷ []) .trace) (n + 1) (w ++ answerIn (fed t (b ∷ []))) s)
-    → Ran size t n w (b ∷ s) (runFrom size t n w (b ∷ s))
-unfolding runFrom afterAll answersAll
+    → Ran size (fed t (b ∷ []) .trace) (n + 1) (w ++ answerIn (fed t (b ∷ []))) s (fillingFrom size (fed t (b ∷ []) .trace) (n + 1) (w ++ answerIn (fed t (b ∷ []))) s)
+    → Ran size t n w (b ∷ s) (fillingFrom size t n w (b ∷ s))
+unfolding fillingFrom afterAll answersAll
 ran-more size t n w b s e r =
     let f : Fed = fed t (b ∷ []) in
     rw e
@@ -197,14 +197,14 @@ ran-more size t n w b s e r =
       stops = λ h. r .stops (omega arith);
     })
 
-ran : (size : ℕ) (s : List ℕ) (t : Trace) (n : ℕ) (w : List ℕ) → Ran size t n w s (runFrom size t n w s)
+ran : (size : ℕ) (s : List ℕ) (t : Trace) (n : ℕ) (w : List ℕ) → Ran size t n w s (fillingFrom size t n w s)
 ran size [] t n w = ran-none size t n w
 ran size (b ∷ s) t n w =
     either (leb (length w + longestAnswer) size)
     (λ e. ran-more size t n w b s e (ran size s (fed t (b ∷ []) .trace) (n + 1) (w ++ answerIn (fed t (b ∷ [])))))
     (λ e. ran-full size t n w b s e)
 
-pub run-law : (size : ℕ) (t : Trace) (s : List ℕ) → Ran size t 0 [] s (run size t s)
+pub run-law : (size : ℕ) (t : Trace) (s : List ℕ) → Ran size t 0 [] s (filling size t s)
 run-law size t s = ran size s t 0 []
 
 -- what whoever feeds a buffer again and again goes by
@@ -213,9 +213,9 @@ pub record Progress (s d₀ : List ℕ) (r : Filled) (d : List ℕ) : Type 0 whe
   pub some : longestAnswer ≤ length d₀ → 0 < length s → 0 < r .taken
   pub fits : r .written ≤ length d
 
-pub progress : (t : Trace) (s d₀ d : List ℕ) (r : Filled) → Fills (run (length d₀) t s) d₀ r d → Progress s d₀ r d
+pub progress : (t : Trace) (s d₀ d : List ℕ) (r : Filled) → Fills (filling (length d₀) t s) d₀ r d → Progress s d₀ r d
 progress t s d₀ d r f =
-    let q : Run = run (length d₀) t s in
+    let q : Filling = filling (length d₀) t s in
     let a : Ran (length d₀) t 0 [] s q = run-law (length d₀) t s in
     let x : r .taken ≡ a .count = ap (λ (y : Filled). y .taken) (f .answer) ∙ a .taken ∙ zero-add (a .count) in
     let w : r .written ≡ length (q .text) = ap (λ (y : Filled). y .written) (f .answer) in

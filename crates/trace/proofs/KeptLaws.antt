@@ -21,7 +21,7 @@ use Rattle.trace.specs.declared.Trace.{Trace}
 use Rattle.trace.specs.declared.Fed.{Fed}
 use Rattle.trace.specs.declared.Words.{Words}
 use Rattle.trace.specs.Feeding.{lineOf, extended, resting, completed, fedFrom, fed}
-use Rattle.trace.specs.Inner.{noWords, Kept, Ready, leftOf}
+use Rattle.trace.specs.Inner.{noWords, Holds, Ready, leftOf}
 
 -- words written over as many, one by one
 pub words-turn : (ws made : List ℕ) (i : ℕ) → i < length ws → i < length made → take i ws ≡ take i made → take (i + 1) (set ws i (getD made i 0)) ≡ take (i + 1) made
@@ -35,15 +35,15 @@ pub words-end : (ws made : List ℕ) (i : ℕ) → length ws ≡ 256 → length 
 words-end ws made i l m n e = sym (take-all i ws (omega arith)) ∙ e ∙ take-all i made (omega arith)
 
 -- none, and all
-pub kept-none : (ws key : List ℕ) → length ws ≡ 256 → Kept ws 0 key
+pub kept-none : (ws key : List ℕ) → length ws ≡ 256 → Holds ws 0 key
 kept-none ws key l = record { size = l; most = omega arith; fits = λ e. absurd (omega arith) }
 
-pub kept-all : (ws key : List ℕ) → ws ≡ kept key → Kept ws 256 key
+pub kept-all : (ws key : List ℕ) → ws ≡ kept key → Holds ws 256 key
 kept-all ws key e =
     let l : length ws ≡ 256 = ap length e ∙ length-kept key in
     record { size = l; most = omega arith; fits = λ z. take-all 256 ws (omega arith) ∙ e }
 
-pub kept-within : {ws : List ℕ} {n : ℕ} {key : List ℕ} → Kept ws n key → n ≤ length ws
+pub kept-within : {ws : List ℕ} {n : ℕ} {key : List ℕ} → Holds ws n key → n ≤ length ws
 kept-within k = let m = k .most in let l = k .size in omega arith
 
 -- a line that does not begin with two digits 0 leaves the keys

@@ -13,15 +13,15 @@ use lib.ListN.{length, take, drop, set, replicate, length-append, length-take, l
 use lib.Seq.{take-all, take-append-le, take-append-seam, take-suc-set}
 use borrow.Author.Tests.{eq-eqb, ne-eqb, le-leb, lt-leb, leb-true, leb-false, eqb-true, eqb-false}
 use Rattle.lines.specs.declared.Held.{Held}
-use Rattle.lines.specs.Lines.{longest, kept, lastLine, linesFrom, lines, lineFor}
-use Rattle.lines.specs.Answers.{Answer, nothing, numbered}
-use Rattle.lines.specs.Said.{padded, said, longestAnswer}
+use Rattle.lines.specs.Lines.{longest, keptSigns, lastLine, linesFrom, lines, lineFor}
+use Rattle.lines.specs.Answers.{LineAnswer, nothing, numbered}
+use Rattle.lines.specs.Said.{filledTo, said, longestAnswer}
 use Rattle.frames.specs.Frames.{answerTo}
 use Rattle.frames.proofs.FrameLaws.{readable-long}
 use Rattle.trace.specs.declared.Trace.{Trace}
 use Rattle.trace.specs.declared.Fed.{Fed}
 use Rattle.trace.specs.Traced.{answers, traced}
-use Rattle.trace.specs.Feeding.{begun, lineOf, extended, resting, completed, fedFrom, fed, ended, answerIn, afterAll, answersAll, afterParts, answersParts, joined, runFrom}
+use Rattle.trace.specs.Feeding.{begun, lineOf, extended, resting, completed, fedFrom, fed, ended, answerIn, afterAll, answersAll, afterParts, answersParts, joined, fillingFrom}
 
 -- fed in parts is fed at once: the same trace after it, and the answers joined
 pub fed-fed : (t : Trace) (a b : List ℕ)
@@ -35,7 +35,7 @@ fed-fed t (x ∷ a) b =
 
 -- what a completed line is answered
 answer-in : (t : Trace) (n : ℕ) → answerIn (completed t n) ≡ lineFor (answerTo (t .held) (lineOf t) .octets)
-unfolding completed said padded
+unfolding completed said filledTo
 answer-in t n =
     take-append-seam (lineFor (answerTo (t .held) (lineOf t) .octets)) _
 
@@ -57,7 +57,7 @@ pub record Split (t : Trace) (s : List ℕ) (n : ℕ) (f : Fed) : Type 0 where
   pub trace : afterAll t s ≡ afterAll (f .trace) (drop size s)
   pub answer : answersAll t s ≡ answerIn f ++ answersAll (f .trace) (drop size s)
   pub run : (room k : ℕ) (w : List ℕ) → length w + longestAnswer ≤ room
-      → runFrom room t k w s ≡ runFrom room (f .trace) (k + size) (w ++ answerIn f) (drop size s)
+      → fillingFrom room t k w s ≡ fillingFrom room (f .trace) (k + size) (w ++ answerIn f) (drop size s)
 
 split-none : (t : Trace) (n : ℕ) → Split t [] n (fedFrom t n [])
 unfolding fedFrom resting afterAll answersAll
@@ -69,11 +69,11 @@ split-none t n =
       some = λ h. h;
       trace = refl;
       answer = refl;
-      run = λ room k w h. ap₂ (λ (i : ℕ) (v : List ℕ). runFrom room t i v []) (sym (add-zero k)) (sym (append-nil w));
+      run = λ room k w h. ap₂ (λ (i : ℕ) (v : List ℕ). fillingFrom room t i v []) (sym (add-zero k)) (sym (append-nil w));
     }
 
 split-line : (b : ℕ) (s : List ℕ) (t : Trace) (n : ℕ) → eqb b 10 ≡ true → Split t (b ∷ s) n (fedFrom t n (b ∷ s))
-unfolding fedFrom completed afterAll answersAll runFrom
+unfolding fedFrom completed afterAll answersAll fillingFrom
 split-line b s t n e =
     rw e
     (record {
@@ -88,7 +88,7 @@ split-line b s t n e =
 
 split-sign : (b : ℕ) (s : List ℕ) (t : Trace) (n : ℕ) → eqb b 10 ≡ false → Split (extended t b) s (n + 1) (fedFrom (extended t b) (n + 1) s)
     → Split t (b ∷ s) n (fedFrom t n (b ∷ s))
-unfolding fedFrom resting afterAll answersAll runFrom
+unfolding fedFrom resting afterAll answersAll fillingFrom
 split-sign b s t n e r =
     let f : Fed = fedFrom (extended t b) (n + 1) s in
     rw e
@@ -103,9 +103,9 @@ split-sign b s t n e r =
           λ room k w h.
           let g : k + 1 + r .size ≡ k + suc (r .size) = omega arith in
           rw (le-leb _ _ h, e)
-          (ap (λ (v : List ℕ). runFrom room (extended t b) (k + 1) v s) (append-nil w)
+          (ap (λ (v : List ℕ). fillingFrom room (extended t b) (k + 1) v s) (append-nil w)
           ∙ r .run room (k + 1) w h
-          ∙ ap (λ (i : ℕ). runFrom room (f .trace) i (w ++ answerIn f) (drop (r .size) s)) g);
+          ∙ ap (λ (i : ℕ). fillingFrom room (f .trace) i (w ++ answerIn f) (drop (r .size) s)) g);
     })
 
 pub either : {P : Type 0} (v : Bool) → (v ≡ true → P) → (v ≡ false → P) → P
@@ -121,11 +121,11 @@ fed-line t s = split s t 0
 
 -- a trace whose current line is l: one sign more than the longest line is kept
 record Holds (t : Trace) (l : List ℕ) : Type 0 where
-  room : length (t .line) ≡ kept
-  count : t .count ≡ length (take kept l)
-  line : lineOf t ≡ take kept l
+  room : length (t .line) ≡ keptSigns
+  count : t .count ≡ length (take keptSigns l)
+  line : lineOf t ≡ take keptSigns l
 
-holds-nothing : (t : Trace) → length (t .line) ≡ kept → t .count ≡ 0 → Holds t []
+holds-nothing : (t : Trace) → length (t .line) ≡ keptSigns → t .count ≡ 0 → Holds t []
 unfolding lineOf
 holds-nothing t h e = record { room = h; count = e; line = rw e }
 
@@ -133,9 +133,9 @@ holds-sign : (t : Trace) (l : List ℕ) (b : ℕ) (v : Bool) → leb (t .count) 
 unfolding extended lineOf
 holds-sign t l b true v h =
     let c : t .count ≤ longest = leb-true _ _ v in
-    let m : length l ≤ longest = omega (arith, length-take kept l, h .count) in
-    let u : take kept l ≡ l = take-all kept l (omega arith) in
-    let w : take kept (l ++ b ∷ []) ≡ l ++ b ∷ [] = take-all kept (l ++ b ∷ []) (simp length-append (omega arith)) in
+    let m : length l ≤ longest = omega (arith, length-take keptSigns l, h .count) in
+    let u : take keptSigns l ≡ l = take-all keptSigns l (omega arith) in
+    let w : take keptSigns (l ++ b ∷ []) ≡ l ++ b ∷ [] = take-all keptSigns (l ++ b ∷ []) (simp length-append (omega arith)) in
     let k : t .count ≡ length l = h .count ∙ ap length u in
     let q : t .count < length (t .line) = omega (arith, h .room) in
     rw v
@@ -146,21 +146,21 @@ holds-sign t l b true v h =
     })
 holds-sign t l b false v h =
     let c : longest < t .count = leb-false _ _ v in
-    let m : kept ≤ length l = omega (arith, length-take kept l, h .count) in
-    let w : take kept (l ++ b ∷ []) ≡ take kept l = take-append-le kept l (b ∷ []) m in
+    let m : keptSigns ≤ length l = omega (arith, length-take keptSigns l, h .count) in
+    let w : take keptSigns (l ++ b ∷ []) ≡ take keptSigns l = take-append-le keptSigns l (b ∷ []) m in
     rw v (record { room = h .room; count = h .count ∙ ap length (sym w); line = h .line ∙ sym w })
 
 -- the answer does not depend on what is past the longest line
-answer-cut : (h : Held) (l : List ℕ) (v : Bool) → leb (length l) kept ≡ v → answerTo h (take kept l) ≡ answerTo h l
+answer-cut : (h : Held) (l : List ℕ) (v : Bool) → leb (length l) keptSigns ≡ v → answerTo h (take keptSigns l) ≡ answerTo h l
 unfolding answerTo
-answer-cut h l true v = ap (answerTo h) (take-all kept l (leb-true _ _ v))
+answer-cut h l true v = ap (answerTo h) (take-all keptSigns l (leb-true _ _ v))
 answer-cut h l false v =
-    let n : kept < length l = leb-false _ _ v in
-    let m : longest < length (take kept l) = simp length-take (omega arith) in
-    rw (readable-long l (omega arith), readable-long (take kept l) m)
+    let n : keptSigns < length l = leb-false _ _ v in
+    let m : longest < length (take keptSigns l) = simp length-take (omega arith) in
+    rw (readable-long l (omega arith), readable-long (take keptSigns l) m)
 
 line-cut : (t : Trace) (l : List ℕ) → Holds t l → answerTo (t .held) (lineOf t) ≡ answerTo (t .held) l
-line-cut t l h = ap (answerTo (t .held)) (h .line) ∙ answer-cut (t .held) l (leb (length l) kept) refl
+line-cut t l h = ap (answerTo (t .held)) (h .line) ∙ answer-cut (t .held) l (leb (length l) keptSigns) refl
 
 extended-held : (t : Trace) (b : ℕ) (v : Bool) → leb (t .count) longest ≡ v → extended t b .held ≡ t .held
 unfolding extended
@@ -181,7 +181,7 @@ unfolding ended resting answers
 last-line t [] h = rw (eq-eqb _ _ (h .count))
 last-line t (x ∷ l) h =
     let n : t .count ≡ 0 → ⊥ = λ e. omega (arith, h .count) in
-    rw (ne-eqb _ _ n) (answer-in t 0 ∙ ap (λ (a : Answer). lineFor (a .octets)) (line-cut t (x ∷ l) h) ∙ sym (append-nil _))
+    rw (ne-eqb _ _ n) (answer-in t 0 ∙ ap (λ (a : LineAnswer). lineFor (a .octets)) (line-cut t (x ∷ l) h) ∙ sym (append-nil _))
 
 -- the rest of the input, where l is read already
 reads-line : (b : ℕ) (s : List ℕ) (t : Trace) (l : List ℕ) → Holds t l → eqb b 10 ≡ true
@@ -190,12 +190,12 @@ reads-line : (b : ℕ) (s : List ℕ) (t : Trace) (l : List ℕ) → Holds t l �
 unfolding afterAll answersAll answers linesFrom
 reads-line b s t l h e r =
     let u : Trace = completed t 1 .trace in
-    let x : Answer = answerTo (t .held) (lineOf t) in
+    let x : LineAnswer = answerTo (t .held) (lineOf t) in
     let k : Holds u [] = completed-holds t l h in
     rw (e, one-line t b e)
     (append-assoc (answerIn (completed t 1)) (answersAll u s) (answerIn (ended (afterAll u s)))
     ∙ ap₂ (λ (p q : List ℕ). p ++ q) (answer-in t 1) (r u k ∙ ap (λ (g : Held). answers g (linesFrom [] s)) (completed-held t))
-    ∙ ap (λ (a : Answer). lineFor (a .octets) ++ answers (a .after) (linesFrom [] s)) (line-cut t l h))
+    ∙ ap (λ (a : LineAnswer). lineFor (a .octets) ++ answers (a .after) (linesFrom [] s)) (line-cut t l h))
 
 reads-sign : (b : ℕ) (s : List ℕ) (t : Trace) (l : List ℕ) → eqb b 10 ≡ false
     → answersAll (extended t b) s ++ answerIn (ended (afterAll (extended t b) s)) ≡ answers (extended t b .held) (linesFrom (l ++ b ∷ []) s)

@@ -7,7 +7,7 @@ use lib.Dec.{eqb, leb}
 use lib.ListN.{length, take, drop, set, replicate}
 use Rattle.lines.specs.declared.Held.{Held}
 use Rattle.lines.specs.declared.Said.{Said}
-use Rattle.lines.specs.Lines.{longest, kept}
+use Rattle.lines.specs.Lines.{longest, keptSigns}
 use Rattle.lines.specs.Answers.{nothing}
 use Rattle.lines.specs.Said.{longestAnswer, said}
 use Rattle.frames.specs.Frames.{answerTo}
@@ -17,7 +17,7 @@ use Rattle.trace.specs.declared.Filled.{Filled}
 
 -- no record, and nothing read
 abbrev pub begun : Trace
-begun = record { held = nothing; line = replicate kept 0; count = 0 }
+begun = record { held = nothing; line = replicate keptSigns 0; count = 0 }
 
 -- the current line, of which one sign more than the longest is kept
 unfoldable pub lineOf : Trace → List ℕ
@@ -82,23 +82,23 @@ joined [] = []
 joined (p ∷ ps) = p ++ joined ps
 
 -- a part fed into a buffer of a size, while there is room for the longest answer: the trace after it, how many bytes were taken, and the answers
-pub record Run : Type 0 where
+pub record Filling : Type 0 where
   pub trace : Trace
   pub taken : ℕ
   pub text : List ℕ
 
 -- n bytes are taken already, and w is written
-unfoldable pub runFrom : ℕ → Trace → ℕ → List ℕ → List ℕ → Run
-runFrom size t n w [] = record { trace = t; taken = n; text = w }
-runFrom size t n w (b ∷ s) =
+unfoldable pub fillingFrom : ℕ → Trace → ℕ → List ℕ → List ℕ → Filling
+fillingFrom size t n w [] = record { trace = t; taken = n; text = w }
+fillingFrom size t n w (b ∷ s) =
     cond (leb (length w + longestAnswer) size)
-    (runFrom size (fed t (b ∷ []) .trace) (n + 1) (w ++ answerIn (fed t (b ∷ []))) s)
+    (fillingFrom size (fed t (b ∷ []) .trace) (n + 1) (w ++ answerIn (fed t (b ∷ []))) s)
     (record { trace = t; taken = n; text = w })
 
-abbrev pub run : ℕ → Trace → List ℕ → Run
-run size t s = runFrom size t 0 [] s
+abbrev pub filling : ℕ → Trace → List ℕ → Filling
+filling size t s = fillingFrom size t 0 [] s
 
 -- the answers stand at the start of the buffer, and the rest of it stays
-pub record Fills (q : Run) (entry : List ℕ) (r : Filled) (exit : List ℕ) : Type 0 where
+pub record Fills (q : Filling) (entry : List ℕ) (r : Filled) (exit : List ℕ) : Type 0 where
   pub answer : r ≡ record { trace = q .trace; taken = q .taken; written = length (q .text) }
   pub bytes : exit ≡ q .text ++ drop (length (q .text)) entry

@@ -13,15 +13,15 @@ use Rattle.trace.specs.declared.Fed.{Fed}
 use Rattle.trace.specs.declared.Turned.{Turned}
 
 -- the first n words are those of a key, or none
-pub record Kept (ws : List ℕ) (n : ℕ) (key : List ℕ) : Type 0 where
+pub record Holds (ws : List ℕ) (n : ℕ) (key : List ℕ) : Type 0 where
   pub size : length ws ≡ 256
   pub most : n ≤ 256
   pub fits : Fits (take n ws) key
 
 pub record Ready (ac smi smc : List ℕ) (n : Words) (m : Masters) : Type 0 where
-  pub of-ac : Kept ac (n .ac) (m .ac)
-  pub of-smi : Kept smi (n .smi) (m .smi)
-  pub of-smc : Kept smc (n .smc) (m .smc)
+  pub of-ac : Holds ac (n .ac) (m .ac)
+  pub of-smi : Holds smi (n .smi) (m .smi)
+  pub of-smc : Holds smc (n .smc) (m .smc)
 
 abbrev pub noWords : Words
 noWords = record { ac = 0; smi = 0; smc = 0 }

@@ -12,8 +12,8 @@ ghost use lib.Seq.{paste};
 ghost use Rattle.card.specs.Record.{masters};
 ghost use Rattle.card.specs.Inner.{FitAll};
 ghost use Rattle.lines.specs.Said.{longestAnswer};
-ghost use Rattle.trace.specs.Feeding.{begun, fed, completed, ended, run, Fills};
-ghost use Rattle.trace.specs.Inner.{noWords, Kept, Ready, leftOf, Turns};
+ghost use Rattle.trace.specs.Feeding.{begun, fed, completed, ended, filling, Fills};
+ghost use Rattle.trace.specs.Inner.{noWords, Holds, Ready, leftOf, Turns};
 
 // A trace read so far: the record, and the current line up to one sign more than the longest.
 pub struct Trace {
@@ -178,8 +178,8 @@ fn put_words(words: &mut [u64], made: [u64; KEPT_WORDS])
 
 // The words of a master key, made where they are used and there are none; and how many there are.
 fn keep(words: &mut [u64], have: usize, used: bool, key: [u8; 32]) -> usize
-    requires { ⌜ Kept (now words) have key ⌝ }
-    ensures { λ r. ⌜ Kept (now (words .exit)) r key ⌝ }
+    requires { ⌜ Holds (now words) have key ⌝ }
+    ensures { λ r. ⌜ Holds (now (words .exit)) r key ⌝ }
 {
     if have != 0 {
         return have;
@@ -274,7 +274,7 @@ fn turn(
 // Feeds bytes while there is room for the longest answer, and writes the answers at the start of a lent buffer; the rest of it stays. The master keys that
 // its lines use are kept from line to line.
 pub fn feed_into(t: Trace, input: &[u8], out: &mut [u8]) -> Filled
-    ensures { λ r. ⌜ Fills (run (length (now (out .entry))) t (now (input .entry))) (now (out .entry)) r (now (out .exit)) ⌝ }
+    ensures { λ r. ⌜ Fills (filling (length (now (out .entry))) t (now (input .entry))) (now (out .entry)) r (now (out .exit)) ⌝ }
 {
     let mut ac = [0; KEPT_WORDS];
     let mut smi = [0; KEPT_WORDS];

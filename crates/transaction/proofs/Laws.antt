@@ -10,7 +10,7 @@ use Rattle.pin.specs.PinBlock.{pinFits}
 use Rattle.transaction.specs.declared.Phase.{Phase}
 use Rattle.transaction.specs.declared.PendingMark.the-variants.{Nothing}
 use Rattle.transaction.specs.declared.Transaction.{Transaction}
-use Rattle.transaction.specs.Transaction.{isOpen, isUnmarked, pendingFits, restFits, phaseFor, begun}
+use Rattle.transaction.specs.Transaction.{isOpen, isUnmarked, pendingFits, restFits, phaseFor, justOpened}
 
 pub pending-none : (p : List ℕ) (n : ℕ) (t : Bool) → n ≡ 0 → t ≡ same p (replicate 12 0) → t ≡ pendingFits n p
 unfolding pendingFits
@@ -45,5 +45,5 @@ module _ (t : Transaction) (o : Bool) (a : o ≡ isOpen (t .phase)) where
 
 -- a transaction just opened
 pub begun-by : (b : Bool) (g : List ℕ) (p : Phase) → p ≡ phaseFor b
-    → record { phase = p; cryptogram = g; pin = replicate 12 0; count = 0; mark = Nothing; spoilt = false } ≡ begun b g
+    → record { phase = p; cryptogram = g; pin = replicate 12 0; count = 0; mark = Nothing; spoilt = false } ≡ justOpened b g
 begun-by b g p e = ap (λ (x : Phase). record { phase = x; cryptogram = g; pin = replicate 12 0; count = 0; mark = Nothing; spoilt = false }) e

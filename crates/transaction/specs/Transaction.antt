@@ -58,8 +58,8 @@ phaseFor true = Aac
 phaseFor false = Arqc
 
 -- a transaction just opened
-abbrev pub begun : Bool → List ℕ → Transaction
-begun mark cryptogram =
+abbrev pub justOpened : Bool → List ℕ → Transaction
+justOpened mark cryptogram =
     record { phase = phaseFor mark; cryptogram = cryptogram; pin = replicate 12 0; count = 0; mark = Nothing; spoilt = false }
 
 -- the issuer answers "in an open ARQC transaction"

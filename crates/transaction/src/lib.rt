@@ -1,7 +1,7 @@
 // A transaction of the soft card: whether one is open, what is pending in it, and whether its fields are sound.
 use cryptogram::Kind;
 ghost use mathlib.Core.Path.{_≡_};
-ghost use Rattle.transaction.specs.Transaction.{isOpen, isUnmarked, none, pendingFits, restFits, kindFor, phaseFor, begun as begunAs, isArqc, markFor, markAfter};
+ghost use Rattle.transaction.specs.Transaction.{isOpen, isUnmarked, none, pendingFits, restFits, kindFor, phaseFor, justOpened as begunAs, isArqc, markFor, markAfter};
 
 // Whether a transaction is open, and of what kind.
 pub enum Phase {

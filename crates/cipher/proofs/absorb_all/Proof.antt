@@ -11,12 +11,12 @@ use Rattle.blocks.specs.Blocks.{taken, absorbed}
 use Rattle.blocks.proofs.Laws.{taken-turn, taken-none}
 use Rattle.gost.specs.declared.Halves.{Halves}
 use Rattle.gost.specs.Gost.{rounds}
-use Rattle.cipher.specs.Code.{added, step}
+use Rattle.cipher.specs.Code.{added, codeStep}
 use Rattle.cipher.proofs.absorb_all.Statement.{statement}
 use Rattle.cipher.proofs.absorb_all.Tie as tie
 
 abbrev Inv-loop : tie.InvT-loop
-Inv-loop k m t₀ n i₀ t i = (i ≤ n) × (taken 8 (step k) (n - i) t (drop (i * 8) m) ≡ taken 8 (step k) n t₀ m)
+Inv-loop k m t₀ n i₀ t i = (i ≤ n) × (taken 8 (codeStep k) (n - i) t (drop (i * 8) m) ≡ taken 8 (codeStep k) n t₀ m)
 
 abbrev μ-loop : tie.MeasureT-loop
 μ-loop k m t₀ n i₀ t i = n - i
@@ -24,18 +24,18 @@ abbrev μ-loop : tie.MeasureT-loop
 loop-holds : tie.Need-loop-holds Inv-loop μ-loop
 loop-holds c =
     let x = c .before .args in
-    (omega arith, ap (λ (n : ℕ). taken 8 (step (x .k)) n (x .s) (now (x .m))) (sub-zero (length (now (x .m)) / 8)))
+    (omega arith, ap (λ (n : ℕ). taken 8 (codeStep (x .k)) n (x .s) (now (x .m))) (sub-zero (length (now (x .m)) / 8)))
 
 loop-again : tie.Need-loop-again Inv-loop μ-loop
-unfolding step
+unfolding codeStep
 loop-again c =
     let x = c .before .before .before .before .before .args in
     let l = c .before .before .before .loop in
     let m = now (x .m) in
     let n = length m / 8 in (
       omega arith,
-      ap (λ (s : Halves). taken 8 (step (x .k)) (n - (l .i + 1)) s (drop ((l .i + 1) * 8) m)) (c .absorb .ensures ∙ ap (λ (b : Halves). rounds (x .k ++ x .k) (added (l .t) b)) (c .before .halves-at .ensures))
-          ∙ sym (taken-turn 8 (lit< tt) (step (x .k)) n (l .i) (l .t) m (omega arith))
+      ap (λ (s : Halves). taken 8 (codeStep (x .k)) (n - (l .i + 1)) s (drop ((l .i + 1) * 8) m)) (c .absorb .ensures ∙ ap (λ (b : Halves). rounds (x .k ++ x .k) (added (l .t) b)) (c .before .halves-at .ensures))
+          ∙ sym (taken-turn 8 (lit< tt) (codeStep (x .k)) n (l .i) (l .t) m (omega arith))
           ∙ l .inv .1,
     )
 
@@ -45,7 +45,7 @@ returns c =
     let x = c .before .before .before .args in
     let l = c .before .loop in
     let n = length (now (x .m)) / 8 in
-    sym (taken-none 8 (lit< tt) (step (x .k)) (n - l .i) (l .t) (drop (l .i * 8) (now (x .m))) (omega arith)) ∙ l .inv .1
+    sym (taken-none 8 (lit< tt) (codeStep (x .k)) (n - l .i) (l .t) (drop (l .i * 8) (now (x .m))) (omega arith)) ∙ l .inv .1
 
 pub absorb-all-spec : {M : Type 1} → statement M
 absorb-all-spec =

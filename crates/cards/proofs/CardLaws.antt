@@ -11,11 +11,12 @@ use lib.ListN.{length, getD, take, drop, replicate, length-drop}
 use lib.Seq.{paste, take-paste, length-paste, drop-drop, take-all, getD-take, getD-drop, length-take-le}
 use Rattle.octets.specs.Lengths.{keyFits}
 use Rattle.octets.proofs.Parts.{part-part}
+use Rattle.rounds.specs.Rounds.{constants}
 use Rattle.derive.specs.declared.KeyAnswer.{KeyAnswer}
 use Rattle.derive.specs.Derivation.{derived, cardLabel}
 use Rattle.derive.specs.Kept.{kept, derivedKept}
-use Rattle.derive.specs.Answers.{yes, derivationKept}
-use Rattle.derive.proofs.Laws.{kept-fits, derived-kept}
+use Rattle.derive.specs.Answers.{yes, derivationOver}
+use Rattle.derive.proofs.Laws.{derivation-over, kept-fits, derived-kept}
 use Rattle.keys.specs.declared.SeedAnswer.{SeedAnswer}
 use Rattle.keys.specs.CardNumber.{cardFits, Y}
 use Rattle.keys.specs.Answers.{cardAnswer, cardKey, seedAnswer}
@@ -129,10 +130,15 @@ key-end k cs out n i e m =
     sym (take-all (32 * i) out (omega arith)) ∙ sym (append-nil (take (32 * i) out)) ∙ ap (λ (j : ℕ). take (32 * i) out ++ keysBy k j (drop (21 * i) cs)) z
 
 -- a key comes with no refusal where the words are 256
-pub key-bytes : (ws seed : List ℕ) (r : KeyAnswer) (l : List ℕ) → length ws ≡ 256 → l ≡ cardLabel → r ≡ derivationKept ws l seed → r .bytes ≡ derivedKept ws cardLabel seed
-unfolding yes
-key-bytes ws seed r l h e f =
-    ap (λ (x : KeyAnswer). x .bytes) (f ∙ ap (λ (x : List ℕ). derivationKept ws x seed) e ∙ sym (kept-fits ws cardLabel seed h))
+pub key-bytes : (cs : List (List ℕ)) (ws seed : List ℕ) (r : KeyAnswer) (l : List ℕ) → length ws ≡ 256 → length seed ≡ 8 → cs ≡ constants → l ≡ cardLabel
+    → r ≡ derivationOver cs ws l seed → r .bytes ≡ derivedKept ws cardLabel seed
+unfolding yes cardLabel
+key-bytes cs ws seed r l h n d e f =
+    ap (λ (x : KeyAnswer). x .bytes)
+    (f
+    ∙ ap₂ (λ (x : List (List ℕ)) (y : List ℕ). derivationOver x ws y seed) d e
+    ∙ derivation-over ws cardLabel seed refl n
+    ∙ sym (kept-fits ws cardLabel seed h))
 
 -- the keys under the kept key are the cards' keys
 module _ (key : List ℕ) (h : length key ≡ 32) where

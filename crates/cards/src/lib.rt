@@ -50,16 +50,17 @@ fn put(out: &mut [u8], p: usize, key: [u8; 32])
     }
 }
 
-// The keys of the first n cards under the words of a kept key.
+// The keys of the first n cards under the words of a kept key. The constants are made once for them.
 fn put_keys(kept: &[u64], cards: &[u8], n: usize, out: &mut [u8])
     requires { ⌜ (length (now kept) ≡ 256) × (21 * n ≤ length (now cards)) × (length (now out) ≡ 32 * n) ⌝ }
     ensures { λ _. ⌜ now (out .exit) ≡ keysBy (now (kept .entry)) n (now (cards .entry)) ⌝ }
 {
+    let cs = rounds::iteration_constants();
     let mut i = 0;
     while i < n {
         let s = seed_at(cards, 21 * i);
         let seed = s.bytes;
-        let r = derive::derive_kept(kept, derive::card_label(), seed);
+        let r = derive::derive_kept_over(&cs, kept, derive::card_label(), seed);
         let key = r.bytes;
         put(out, 32 * i, key);
         i += 1;

@@ -8,7 +8,7 @@ use Rattle.octets.specs.Lengths.{keyFits}
 use Rattle.derive.specs.declared.KeyAnswer.{KeyAnswer}
 use Rattle.derive.specs.Hmac.{hmac}
 use Rattle.derive.specs.Derivation.{derived, cardLabel}
-use Rattle.derive.specs.Kept.{keptFits, derivedKept}
+use Rattle.derive.specs.Kept.{keptFits, derivedKept, derivedOver}
 
 -- 01: a seed is 8 bytes
 unfoldable pub seedFits : List ℕ → Bool
@@ -35,6 +35,10 @@ cardDerivation key seed = cond (seedFits seed) (derivation key cardLabel seed) (
 -- the derivation under the words of a kept key
 unfoldable pub derivationKept : List ℕ → List ℕ → List ℕ → KeyAnswer
 derivationKept ws label seed = cond (keptFits ws) (yes (derivedKept ws label seed)) (noKey 1)
+
+-- the same with the constants cs, for a label of 4 bytes and a seed of 8
+unfoldable pub derivationOver : List (List ℕ) → List ℕ → List ℕ → List ℕ → KeyAnswer
+derivationOver cs ws label seed = cond (keptFits ws) (yes (derivedOver cs ws label seed)) (noKey 1)
 
 -- the 32 bytes of a key; zeros for another length
 unfoldable pub keyOf : List ℕ → List ℕ

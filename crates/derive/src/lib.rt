@@ -5,7 +5,7 @@ ghost use Rattle.derive.specs.Hmac.{padded};
 ghost use Rattle.derive.specs.Derivation.{string as stringOf, cardLabel};
 ghost use Rattle.derive.specs.Started.{started, hmacWith};
 ghost use Rattle.derive.specs.Kept.{kept};
-ghost use Rattle.derive.specs.Answers.{maced, derivation as derivationOf, cardDerivation, derivationKept, keyOf};
+ghost use Rattle.derive.specs.Answers.{maced, derivation as derivationOf, cardDerivation, derivationKept, derivationOver, keyOf};
 use hash::State;
 use rounds::lay;
 
@@ -164,9 +164,9 @@ pub fn keep(key: [u8; 32]) -> [u64; KEPT_WORDS]
     r
 }
 
-// The key derived from the words of a kept key, a label and a seed; another number of words: 1.
-pub fn derive_kept(kept: &[u64], label: [u8; 4], seed: [u8; 8]) -> KeyAnswer
-    ensures { λ r. ⌜ r ≡ derivationKept (now (kept .entry)) label seed ⌝ }
+// The key derived from the words of a kept key, a label and a seed, with the constants cs, which are made once for many; another number of words: 1.
+pub fn derive_kept_over(cs: &[[u64; 8]], kept: &[u64], label: [u8; 4], seed: [u8; 8]) -> KeyAnswer
+    ensures { λ r. ⌜ r ≡ derivationOver (now (cs .entry)) (now (kept .entry)) label seed ⌝ }
 {
     if kept.len() != KEPT_WORDS {
         return KeyAnswer {
@@ -174,7 +174,16 @@ pub fn derive_kept(kept: &[u64], label: [u8; 4], seed: [u8; 8]) -> KeyAnswer
             bytes: [0; 32],
         };
     }
-    let x = hash::end_ahead(&kept[0..128], &string(label, &seed));
-    let bytes = hash::end_ahead(&kept[128..], &x);
+    let m = string(label, &seed);
+    let x = hash::end_block(cs, &kept[0..128], 128, hash::last_block(&m));
+    let bytes = hash::end_block(cs, &kept[128..], 256, hash::last_block(&x));
     KeyAnswer { code: 0, bytes }
+}
+
+// The key derived from the words of a kept key, a label and a seed; another number of words: 1.
+pub fn derive_kept(kept: &[u64], label: [u8; 4], seed: [u8; 8]) -> KeyAnswer
+    ensures { λ r. ⌜ r ≡ derivationKept (now (kept .entry)) label seed ⌝ }
+{
+    let cs = rounds::iteration_constants();
+    derive_kept_over(&cs, kept, label, seed)
 }

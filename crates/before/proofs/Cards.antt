@@ -9,6 +9,7 @@ use native.Mathlib.Omega.{arith}
 use borrow.Author.Tests.{le-leb, lt-leb}
 use lib.Dec.{leb}
 use lib.ListN.{length, getD, drop, replicate-append-replicate, length-append, length-drop, length-replicate}
+use Rattle.answers.specs.Answers.{aKey, noKey}
 use Rattle.octets.specs.Same.{same}
 use Rattle.octets.specs.Digits.{pairs}
 use Rattle.octets.proofs.SameLaws.{same-refl, same-true}
@@ -17,7 +18,6 @@ use Rattle.octets.proofs.Parts.{zeros, Below, below-append, below-drop, below-z
 use Rattle.blocks.proofs.Laws.{lt-or-ge}
 use Rattle.octets.specs.Lengths.{keyFits}
 use Rattle.derive.specs.Derivation.{derived, cardLabel}
-use Rattle.derive.specs.Answers.{noKey, yes}
 use Rattle.keys.specs.CardNumber.{cardFits, X, sixteen, Y, packedY}
 use Rattle.keys.specs.Answers.{cardAnswer, cardKey, cardKeyPacked}
 use Rattle.keys.proofs.CardLaws.{length-X, length-sixteen, sixteen-small, X-small, fits}
@@ -143,8 +143,8 @@ module _ (base : ℕ) (enough : 10 ≤ base) (x : List ℕ) (least : 14 ≤ leng
 
 module _ (key pan : List ℕ) (q : ℕ) (y z : List ℕ) where
   only-card : (b : Bool) → (b ≡ true → y ≡ z)
-      → cond (keyFits key) (cond b (yes (derived key cardLabel y)) (noKey 2)) (noKey 1) ≡ cond (keyFits key) (cond b (yes (derived key cardLabel z)) (noKey 2)) (noKey 1)
-  only-card true e = ap (λ (s : List ℕ). cond (keyFits key) (yes (derived key cardLabel s)) (noKey 1)) (e refl)
+      → cond (keyFits key) (cond b (aKey (derived key cardLabel y)) (noKey 2)) (noKey 1) ≡ cond (keyFits key) (cond b (aKey (derived key cardLabel z)) (noKey 2)) (noKey 1)
+  only-card true e = ap (λ (s : List ℕ). cond (keyFits key) (aKey (derived key cardLabel s)) (noKey 1)) (e refl)
   only-card false e = refl
 
   same-answer : (t : Bool) → (cardFits pan q ≡ true → same y z ≡ not t) → (cardFits pan q && t) ≡ false → cardAnswer key pan q y ≡ cardAnswer key pan q z

@@ -4,7 +4,7 @@ use Prim.Native.Nat.{ℕ, _-_}
 use mathlib.Core.List.{List, _++_}
 use lib.ListN.{length, drop, replicate}
 use Rattle.octets.specs.Digits.{pairs}
-use Rattle.derive.specs.declared.KeyAnswer.{KeyAnswer}
+use Rattle.answers.specs.declared.KeyAnswer.{KeyAnswer}
 use Rattle.keys.specs.CardNumber.{X}
 use Rattle.keys.specs.Answers.{cardAnswer}
 

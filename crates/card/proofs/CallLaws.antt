@@ -8,6 +8,7 @@ use mathlib.Core.List.{List, []}
 use lib.Dec.{eqb}
 use lib.ListN.{length, take, drop, length-append}
 use borrow.Author.Tests.{eq-eqb, ne-eqb, le-leb, lt-leb, not-true, not-false}
+use Rattle.answers.specs.Answers.{aKey as keyYes}
 use Rattle.answers.specs.declared.Refusal.{Refusal}
 use Rattle.answers.specs.Refusals.{number}
 use Rattle.answers.specs.declared.Refusal.the-variants.{PhaseWrong, NotListed}
@@ -31,10 +32,10 @@ use Rattle.cipher.specs.Answers.{enciphered}
 use Rattle.cipher.proofs.AnswerLaws as ciphers
 use Rattle.hash.specs.Hash.{hash256}
 use Rattle.hash.proofs.Laws.{length-hash256}
-use Rattle.derive.specs.declared.KeyAnswer.{KeyAnswer}
+use Rattle.answers.specs.declared.KeyAnswer.{KeyAnswer}
 use Rattle.derive.specs.Hmac.{hmac}
 use Rattle.derive.specs.Derivation.{derived, cardLabel}
-use Rattle.derive.specs.Answers.{cardDerivation, yes as keyYes}
+use Rattle.derive.specs.Answers.{cardDerivation}
 use Rattle.derive.proofs.Laws as derivations
 use Rattle.keys.specs.Seeds.{sessionSeed}
 use Rattle.keys.proofs.AnswerLaws.{counter-yes, session-kept, script-kept}
@@ -91,7 +92,6 @@ unfolding sessionKeyOf
 length-session r = length-derived _ _ _
 
 key-made : (key seed : List ℕ) (x : KeyAnswer) → length key ≡ 32 → length seed ≡ 8 → x ≡ cardDerivation key seed → x .bytes ≡ derived key cardLabel seed
-unfolding keyYes
 key-made key seed x k l e = ap (λ (y : KeyAnswer). y .bytes) (e ∙ sym (derivations.fits key cardLabel seed k ∙ derivations.card-seed key seed l))
 
 pub key-session : (r : Card) (x : KeyAnswer) → length (r .ac) ≡ 32 → x ≡ sessionKey (r .ac) (r .atc) → x .bytes ≡ sessionKeyOf r
@@ -132,7 +132,7 @@ module _ (r : Card) (k : List ℕ) (ek : k ≡ sessionKeyOf r) where
 
   pub counters-made : (a : KeyAnswer) (b : List ℕ) (x : BlockAnswer) → a ≡ counterKey k → b ≡ counterBlock (r .counters) → x ≡ enciphered (a .bytes) b
       → x .bytes ≡ countersFor r
-  unfolding countersFor counterKeyOf enciphered keyYes
+  unfolding countersFor counterKeyOf enciphered
   counters-made a b x ea eb ex =
       ap (λ (y : BlockAnswer). y .bytes)
       (ex

@@ -9,14 +9,16 @@ use borrow.Author.Tests.{eq-eqb, ne-eqb, leb-true, leb-false}
 use lib.Dec.{eqb, leb, lit<}
 use lib.ListN.{length, getD, take, drop, replicate, length-drop}
 use lib.Seq.{paste, take-paste, length-paste, drop-drop, take-all, getD-take, getD-drop, length-take-le}
+use Rattle.answers.specs.Answers.{aKey}
 use Rattle.octets.specs.Lengths.{keyFits}
 use Rattle.octets.proofs.Parts.{part-part}
-use Rattle.derive.specs.declared.KeyAnswer.{KeyAnswer}
+use Rattle.rounds.specs.Rounds.{constants}
+use Rattle.answers.specs.declared.KeyAnswer.{KeyAnswer}
 use Rattle.derive.specs.Derivation.{derived, cardLabel}
 use Rattle.derive.specs.Kept.{kept, derivedKept}
-use Rattle.derive.specs.Answers.{yes, derivationKept}
-use Rattle.derive.proofs.Laws.{kept-fits, derived-kept}
-use Rattle.keys.specs.declared.SeedAnswer.{SeedAnswer}
+use Rattle.derive.specs.Answers.{derivationOver}
+use Rattle.derive.proofs.Laws.{derivation-over, kept-fits, derived-kept}
+use Rattle.answers.specs.declared.BlockAnswer.{BlockAnswer}
 use Rattle.keys.specs.CardNumber.{cardFits, Y}
 use Rattle.keys.specs.Answers.{cardAnswer, cardKey, seedAnswer}
 use Rattle.keys.proofs.CardLaws.{too-long}
@@ -35,7 +37,7 @@ module _ (cs : List ℕ) (p : ℕ) (h : p + 21 ≤ length cs) where
   count-at : getD (take 21 (drop p cs)) 0 0 ≡ getD cs p 0
   count-at = card-at 0 (lit< tt) ∙ ap (λ (i : ℕ). getD cs i 0) (add-zero p)
 
-  pub seed-none : 19 < getD cs p 0 → _≡_ {A = SeedAnswer} (record { code = 2; bytes = replicate 8 0 }) (seedOf (take 21 (drop p cs)))
+  pub seed-none : 19 < getD cs p 0 → _≡_ {A = BlockAnswer} (record { code = 2; bytes = replicate 8 0 }) (seedOf (take 21 (drop p cs)))
   unfolding seedOf panOf
   seed-none g =
       let c : List ℕ = take 21 (drop p cs) in
@@ -56,7 +58,7 @@ module _ (cs : List ℕ) (p : ℕ) (h : p + 21 ≤ length cs) where
               let k : length (take (getD c 0 0) (drop 1 c)) ≡ 20 = ap length m ∙ n in
               omega arith
 
-  pub seed-part : (n k : ℕ) (r : SeedAnswer) → n ≡ getD cs p 0 → n ≤ 19 → k ≡ n → r ≡ seedAnswer (take k (drop (p + 1) cs)) (getD cs (p + 20) 0) → r ≡ seedOf (take 21 (drop p cs))
+  pub seed-part : (n k : ℕ) (r : BlockAnswer) → n ≡ getD cs p 0 → n ≤ 19 → k ≡ n → r ≡ seedAnswer (take k (drop (p + 1) cs)) (getD cs (p + 20) 0) → r ≡ seedOf (take 21 (drop p cs))
   unfolding seedOf panOf sequenceOf
   seed-part n k r e l q f =
       f
@@ -65,7 +67,7 @@ module _ (cs : List ℕ) (p : ℕ) (h : p + 21 ≤ length cs) where
       (sym (card-at 20 (lit< tt)))
 
 -- a seed comes with no refusal where the card fits
-abbrev coded : Bool → List ℕ → SeedAnswer
+abbrev coded : Bool → List ℕ → BlockAnswer
 coded t y = cond t (record { code = 0; bytes = y }) (record { code = 2; bytes = replicate 8 0 })
 
 pub fits-of : (c : List ℕ) → seedOf c .code ≡ 0 → cardFits (panOf c) (sequenceOf c) ≡ true
@@ -129,15 +131,20 @@ key-end k cs out n i e m =
     sym (take-all (32 * i) out (omega arith)) ∙ sym (append-nil (take (32 * i) out)) ∙ ap (λ (j : ℕ). take (32 * i) out ++ keysBy k j (drop (21 * i) cs)) z
 
 -- a key comes with no refusal where the words are 256
-pub key-bytes : (ws seed : List ℕ) (r : KeyAnswer) (l : List ℕ) → length ws ≡ 256 → l ≡ cardLabel → r ≡ derivationKept ws l seed → r .bytes ≡ derivedKept ws cardLabel seed
-unfolding yes
-key-bytes ws seed r l h e f =
-    ap (λ (x : KeyAnswer). x .bytes) (f ∙ ap (λ (x : List ℕ). derivationKept ws x seed) e ∙ sym (kept-fits ws cardLabel seed h))
+pub key-bytes : (cs : List (List ℕ)) (ws seed : List ℕ) (r : KeyAnswer) (l : List ℕ) → length ws ≡ 256 → length seed ≡ 8 → cs ≡ constants → l ≡ cardLabel
+    → r ≡ derivationOver cs ws l seed → r .bytes ≡ derivedKept ws cardLabel seed
+unfolding cardLabel
+key-bytes cs ws seed r l h n d e f =
+    ap (λ (x : KeyAnswer). x .bytes)
+    (f
+    ∙ ap₂ (λ (x : List (List ℕ)) (y : List ℕ). derivationOver x ws y seed) d e
+    ∙ derivation-over ws cardLabel seed refl n
+    ∙ sym (kept-fits ws cardLabel seed h))
 
 -- the keys under the kept key are the cards' keys
 module _ (key : List ℕ) (h : length key ≡ 32) where
   one : (c : List ℕ) → cardFits (panOf c) (sequenceOf c) ≡ true → derivedKept (kept key) cardLabel (seedOf c .bytes) ≡ cardKey key (panOf c) (sequenceOf c) .bytes
-  unfolding seedOf seedAnswer cardKey cardAnswer keyFits yes
+  unfolding seedOf seedAnswer cardKey cardAnswer keyFits
   one c f =
       ap (λ (t : Bool). derivedKept (kept key) cardLabel (coded t (Y (panOf c) (sequenceOf c)) .bytes)) f
       ∙ derived-kept key cardLabel (Y (panOf c) (sequenceOf c)) h

@@ -5,6 +5,8 @@ use mathlib.Core.Bool.{Bool, true, _&&_, cond}
 use mathlib.Core.List.{List, [], _++_}
 use lib.Dec.{eqb}
 use lib.ListN.{length, getD, take, drop}
+use Rattle.answers.specs.declared.Refusal.the-variants.{Input, CardNumber}
+use Rattle.answers.specs.Refusals.{number}
 use Rattle.octets.specs.Lengths.{keyFits}
 use Rattle.keys.specs.CardNumber.{cardFits}
 use Rattle.keys.specs.Answers.{cardKey}
@@ -32,7 +34,7 @@ lengthsFit issuer cs lent = keyFits issuer && (eqb (length cs % 21) 0 && eqb (le
 
 -- 1 for a length, 2 for a card
 unfoldable pub cardsNumber : List ℕ → List ℕ → List ℕ → ℕ
-cardsNumber issuer cs lent = cond (lengthsFit issuer cs lent) (cond (allFit (length cs / 21) cs) 0 2) 1
+cardsNumber issuer cs lent = cond (lengthsFit issuer cs lent) (cond (allFit (length cs / 21) cs) 0 (number CardNumber)) (number Input)
 
 -- the slice afterwards: the keys of all cards, or as it was
 unfoldable pub cardsAfter : List ℕ → List ℕ → List ℕ → List ℕ

@@ -4,11 +4,11 @@ use mathlib.Core.List.{List, [], _++_}
 use lib.ListN.{take, drop}
 use Rattle.derive.specs.Derivation.{cardLabel}
 use Rattle.derive.specs.Kept.{derivedKept}
-use Rattle.keys.specs.declared.SeedAnswer.{SeedAnswer}
+use Rattle.answers.specs.declared.BlockAnswer.{BlockAnswer}
 use Rattle.keys.specs.Answers.{seedAnswer}
 use Rattle.cards.specs.Cards.{panOf, sequenceOf}
 
-unfoldable pub seedOf : List ℕ → SeedAnswer
+unfoldable pub seedOf : List ℕ → BlockAnswer
 seedOf c = seedAnswer (panOf c) (sequenceOf c)
 
 -- the keys of the first n cards under the words of a kept key

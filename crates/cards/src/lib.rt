@@ -5,17 +5,18 @@ ghost use lib.ListN.{length, take, drop};
 ghost use lib.Seq.{paste};
 ghost use Rattle.cards.specs.Cards.{allFit, cardsNumber, cardsAfter};
 ghost use Rattle.cards.specs.Inner.{seedOf, keysBy};
-use keys::SeedAnswer;
+use answers::BlockAnswer;
+use answers::Refusal;
 
 // The seed of the card at a place.
-fn seed_at(cards: &[u8], p: usize) -> SeedAnswer
+fn seed_at(cards: &[u8], p: usize) -> BlockAnswer
     requires { ⌜ p + 21 ≤ length (now cards) ⌝ }
     ensures { λ r. ⌜ r ≡ seedOf (take 21 (drop p (now (cards .entry)))) ⌝ }
 {
     let n = cards[p] as usize;
     if n > 19 {
-        return SeedAnswer {
-            code: 2,
+        return BlockAnswer {
+            code: Refusal::CARD_NUMBER,
             bytes: [0; 8],
         };
     }
@@ -50,16 +51,17 @@ fn put(out: &mut [u8], p: usize, key: [u8; 32])
     }
 }
 
-// The keys of the first n cards under the words of a kept key.
+// The keys of the first n cards under the words of a kept key. The constants are made once for them.
 fn put_keys(kept: &[u64], cards: &[u8], n: usize, out: &mut [u8])
     requires { ⌜ (length (now kept) ≡ 256) × (21 * n ≤ length (now cards)) × (length (now out) ≡ 32 * n) ⌝ }
     ensures { λ _. ⌜ now (out .exit) ≡ keysBy (now (kept .entry)) n (now (cards .entry)) ⌝ }
 {
+    let cs = rounds::iteration_constants();
     let mut i = 0;
     while i < n {
         let s = seed_at(cards, 21 * i);
         let seed = s.bytes;
-        let r = derive::derive_kept(kept, derive::card_label(), seed);
+        let r = derive::derive_kept_over(&cs, kept, derive::card_label(), seed);
         let key = r.bytes;
         put(out, 32 * i, key);
         i += 1;
@@ -75,20 +77,20 @@ pub fn card_keys(issuer: &[u8], cards: &[u8], out: &mut [u8]) -> u8
         ⌝ }
 {
     if issuer.len() != 32 {
-        return 1;
+        return Refusal::INPUT;
     }
     if cards.len() % 21 != 0 {
-        return 1;
+        return Refusal::INPUT;
     }
     if out.len() % 32 != 0 {
-        return 1;
+        return Refusal::INPUT;
     }
     let n = cards.len() / 21;
     if out.len() / 32 != n {
-        return 1;
+        return Refusal::INPUT;
     }
     if !all_fit(cards, n) {
-        return 2;
+        return Refusal::CARD_NUMBER;
     }
     put_keys(&derive::keep(derive::key_of(issuer)), cards, n, out);
     0

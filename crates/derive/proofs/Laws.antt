@@ -1,28 +1,31 @@
 -- A started key gives what the key gives; and what the entry points answer, test by test. Assumes nothing.
 use mathlib.Core.Path.{_≡_, refl, sym, ap, ap₂, _∙_}
+use mathlib.Core.Bool.{cond}
 use mathlib.Core.List.{List, [], _∷_, _++_, append-nil}
-use Prim.Native.Nat.{ℕ, _+_, _-_}
+use Prim.Native.Nat.{ℕ, suc, _+_, _-_, _*_}
 use native.Mathlib.Omega.{arith}
 use borrow.Author.Tests.{eq-eqb, ne-eqb}
 use lib.Dec.{lit≤}
 use lib.ListN.{length, take, drop, replicate, length-append, length-drop}
 use lib.Seq.{take-at, drop-at, take-all}
+use Rattle.answers.specs.Answers.{aKey, noKey}
 use Rattle.octets.proofs.Parts.{zeros, elements, elements-all}
+use Rattle.rounds.specs.Rounds.{constants}
 use Rattle.rounds.specs.Lent.{laid}
 use Rattle.rounds.proofs.LentLaws.{laid-zeros}
 use Rattle.hash.specs.declared.State.{State}
 use Rattle.hash.specs.Hash.{hash256}
 use Rattle.hash.specs.States.{begun, fed, ended}
-use Rattle.hash.specs.Ahead.{aheadOf, endedAhead}
+use Rattle.hash.specs.Ahead.{aheadOf, endedAhead, lastBlock, endedBlock}
 use Rattle.hash.proofs.Laws.{fed-fed, ended-fed}
-use Rattle.hash.proofs.AheadLaws.{length-ahead, eights-fed, ended-ahead, fed-block}
-use Rattle.derive.specs.Kept.{kept, keptFits, derivedKept}
+use Rattle.hash.proofs.AheadLaws.{length-ahead, eights-fed, ended-ahead, fed-block, length-block, ended-block}
+use Rattle.derive.specs.Kept.{kept, keptFits, derivedKept, derivedOver}
 use Rattle.derive.proofs.PadLaws.{length-ipad, length-opad}
 use Rattle.derive.specs.Hmac.{ipad, opad, hmac}
 use Rattle.derive.specs.Derivation.{string, derived, cardLabel}
 use Rattle.derive.specs.Started.{started, hmacWith}
 use Rattle.octets.specs.Lengths.{keyFits}
-use Rattle.derive.specs.Answers.{seedFits, noKey, yes, maced, derivation, cardDerivation, derivationKept, keyOf}
+use Rattle.derive.specs.Answers.{seedFits, maced, derivation, cardDerivation, derivationKept, derivationOver, keyOf}
 
 two-parts : (x y : List ℕ) → ended (fed (fed begun x) y) ≡ hash256 (x ++ y)
 two-parts x y = ap ended (fed-fed begun x y) ∙ ended-fed (x ++ y)
@@ -102,7 +105,7 @@ module _ (key m : List ℕ) where
   unfolding maced keyFits
   hmac-no-key h = simp (ne-eqb _ _ h)
 
-  pub hmac-fits : length key ≡ 32 → yes (hmac key m) ≡ maced key m
+  pub hmac-fits : length key ≡ 32 → aKey (hmac key m) ≡ maced key m
   unfolding maced keyFits
   hmac-fits h = simp (eq-eqb _ _ h)
 
@@ -111,7 +114,7 @@ module _ (key label seed : List ℕ) where
   unfolding derivation keyFits
   no-key h = simp (ne-eqb _ _ h)
 
-  pub fits : length key ≡ 32 → yes (derived key label seed) ≡ derivation key label seed
+  pub fits : length key ≡ 32 → aKey (derived key label seed) ≡ derivation key label seed
   unfolding derivation keyFits
   fits h = simp (eq-eqb _ _ h)
 
@@ -123,7 +126,7 @@ module _ (key label seed : List ℕ) where
   -- and under the kept key it is the same
   pub derivation-kept : length key ≡ 32 → derivationKept (kept key) label seed ≡ derivation key label seed
   unfolding derivationKept keptFits
-  derivation-kept h = simp (eq-eqb _ _ (length-kept key)) (ap yes (derived-kept key label seed h) ∙ fits h)
+  derivation-kept h = simp (eq-eqb _ _ (length-kept key)) (ap aKey (derived-kept key label seed h) ∙ fits h)
 
 module _ (key seed : List ℕ) where
   pub card-no-seed : (length seed ≡ 8 → ⊥) → noKey 1 ≡ cardDerivation key seed
@@ -139,17 +142,54 @@ module _ (ws label seed : List ℕ) where
   unfolding derivationKept keptFits
   kept-no-words h = simp (ne-eqb _ _ h)
 
-  pub kept-fits : length ws ≡ 256 → yes (derivedKept ws label seed) ≡ derivationKept ws label seed
+  pub kept-fits : length ws ≡ 256 → aKey (derivedKept ws label seed) ≡ derivationKept ws label seed
   unfolding derivationKept keptFits
   kept-fits h = simp (eq-eqb _ _ h)
 
+  -- with the constants of the RFC, by last blocks
+  module _ (h : length label ≡ 4) (l : length seed ≡ 8) where
+    length-string : length (string label seed) ≡ 16
+    unfolding string
+    length-string =
+        let e : length (seed ++ 0x01 ∷ 0x00 ∷ []) ≡ length seed + 2 = length-append seed (0x01 ∷ 0x00 ∷ []) in
+        let f : length (label ++ 0x00 ∷ (seed ++ 0x01 ∷ 0x00 ∷ [])) ≡ length label + suc (length (seed ++ 0x01 ∷ 0x00 ∷ [])) =
+        length-append label (0x00 ∷ (seed ++ 0x01 ∷ 0x00 ∷ [])) in
+        omega arith
+
+    derived-over : derivedOver constants ws label seed ≡ derivedKept ws label seed
+    unfolding derivedOver derivedKept
+    derived-over =
+        let m : List ℕ = string label seed in
+        let n : length m ≡ 16 = length-string in
+        let b : 128 ≡ 8 * length m = omega arith in
+        let x : List ℕ = endedBlock constants (take 128 ws) 128 (lastBlock m) in
+        let k : length x ≡ 32 = length-block constants (take 128 ws) 128 (lastBlock m) in
+        let d : 256 ≡ 8 * length x = omega arith in
+        ap (λ (i : ℕ). endedBlock constants (drop 128 ws) i (lastBlock x)) d
+        ∙ ended-block (drop 128 ws) x (omega arith)
+        ∙ ap (endedAhead (drop 128 ws))
+        (ap (λ (i : ℕ). endedBlock constants (take 128 ws) i (lastBlock m)) b ∙ ended-block (take 128 ws) m (omega arith))
+
+    pub derivation-over : derivationOver constants ws label seed ≡ derivationKept ws label seed
+    unfolding derivationOver derivationKept
+    derivation-over = ap (λ (x : List ℕ). cond (keptFits ws) (aKey x) (noKey 1)) derived-over
+
+module _ (cs : List (List ℕ)) (ws label seed : List ℕ) where
+  pub over-no-words : (length ws ≡ 256 → ⊥) → noKey 1 ≡ derivationOver cs ws label seed
+  unfolding derivationOver keptFits
+  over-no-words h = simp (ne-eqb _ _ h)
+
   -- by the halves that the code lends
-  pub kept-lent : length ws ≡ 256 → (x y : List ℕ) → x ≡ endedAhead (take 128 ws) (string label seed)
-      → y ≡ endedAhead (take (length ws - 128) (drop 128 ws)) x → yes y ≡ derivationKept ws label seed
-  unfolding derivedKept
-  kept-lent h x y e f =
+  pub over-lent : length ws ≡ 256 → (m x y : List ℕ) → m ≡ string label seed → x ≡ endedBlock cs (take 128 ws) 128 (lastBlock m)
+      → y ≡ endedBlock cs (take (length ws - 128) (drop 128 ws)) 256 (lastBlock x) → aKey y ≡ derivationOver cs ws label seed
+  unfolding derivationOver keptFits derivedOver
+  over-lent h m x y d e f =
       let n : length (drop 128 ws) ≡ 128 = length-drop 128 ws ∙ omega arith in
-      ap yes (f ∙ ap₂ endedAhead (take-all (length ws - 128) (drop 128 ws) (omega arith)) e) ∙ kept-fits h
+      simp (eq-eqb _ _ h)
+      (ap aKey
+      (f
+      ∙ ap₂ (λ (a b : List ℕ). endedBlock cs a 256 (lastBlock b)) (take-all (length ws - 128) (drop 128 ws) (omega arith))
+      (e ∙ ap (λ (s : List ℕ). endedBlock cs (take 128 ws) 128 (lastBlock s)) d)))
 
 module _ (key : List ℕ) where
   pub key-of-none : (length key ≡ 32 → ⊥) → replicate 32 0 ≡ keyOf key

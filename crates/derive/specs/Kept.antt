@@ -4,7 +4,7 @@ use mathlib.Core.List.{List, _++_}
 use Prim.Native.Nat.{ℕ}
 use lib.Dec.{eqb}
 use lib.ListN.{length, take, drop}
-use Rattle.hash.specs.Ahead.{aheadOf, endedAhead}
+use Rattle.hash.specs.Ahead.{aheadOf, endedAhead, lastBlock, endedBlock}
 use Rattle.derive.specs.Derivation.{string}
 use Rattle.derive.specs.Started.{started}
 
@@ -17,3 +17,7 @@ keptFits ws = eqb (length ws) 256
 
 unfoldable pub derivedKept : List ℕ → List ℕ → List ℕ → List ℕ
 derivedKept ws label seed = endedAhead (drop 128 ws) (endedAhead (take 128 ws) (string label seed))
+
+-- the same with the constants cs, by the last block of each hash: 16 bytes of the string, 32 of the inner hash
+unfoldable pub derivedOver : List (List ℕ) → List ℕ → List ℕ → List ℕ → List ℕ
+derivedOver cs ws label seed = endedBlock cs (drop 128 ws) 256 (lastBlock (endedBlock cs (take 128 ws) 128 (lastBlock (string label seed))))

@@ -5,7 +5,9 @@ ghost use Rattle.derive.specs.Hmac.{padded};
 ghost use Rattle.derive.specs.Derivation.{string as stringOf, cardLabel};
 ghost use Rattle.derive.specs.Started.{started, hmacWith};
 ghost use Rattle.derive.specs.Kept.{kept};
-ghost use Rattle.derive.specs.Answers.{maced, derivation as derivationOf, cardDerivation, derivationKept, keyOf};
+ghost use Rattle.derive.specs.Answers.{maced, derivation as derivationOf, cardDerivation, derivationKept, derivationOver, keyOf};
+pub use answers::KeyAnswer;
+use answers::Refusal;
 use hash::State;
 use rounds::lay;
 
@@ -13,12 +15,6 @@ use rounds::lay;
 pub struct Started {
     pub inner: State,
     pub outer: State,
-}
-
-// A key or a code of 32 bytes, or a refusal's number and zeros.
-pub struct KeyAnswer {
-    pub code: u8,
-    pub bytes: [u8; 32],
 }
 
 // The words of a kept key: 128 of the inner hash, and 128 of the outer.
@@ -85,7 +81,7 @@ pub fn hmac(key: &[u8], m: &[u8]) -> KeyAnswer
 {
     if key.len() != 32 {
         return KeyAnswer {
-            code: 1,
+            code: Refusal::INPUT,
             bytes: [0; 32],
         };
     }
@@ -99,7 +95,7 @@ pub fn derivation(key: &[u8], label: &[u8], seed: &[u8]) -> KeyAnswer
 {
     if key.len() != 32 {
         return KeyAnswer {
-            code: 1,
+            code: Refusal::INPUT,
             bytes: [0; 32],
         };
     }
@@ -144,7 +140,7 @@ pub fn derive(key: &[u8], seed: &[u8]) -> KeyAnswer
 {
     if seed.len() != 8 {
         return KeyAnswer {
-            code: 1,
+            code: Refusal::INPUT,
             bytes: [0; 32],
         };
     }
@@ -164,17 +160,26 @@ pub fn keep(key: [u8; 32]) -> [u64; KEPT_WORDS]
     r
 }
 
+// The key derived from the words of a kept key, a label and a seed, with the constants cs, which are made once for many; another number of words: 1.
+pub fn derive_kept_over(cs: &[[u64; 8]], kept: &[u64], label: [u8; 4], seed: [u8; 8]) -> KeyAnswer
+    ensures { λ r. ⌜ r ≡ derivationOver (now (cs .entry)) (now (kept .entry)) label seed ⌝ }
+{
+    if kept.len() != KEPT_WORDS {
+        return KeyAnswer {
+            code: Refusal::INPUT,
+            bytes: [0; 32],
+        };
+    }
+    let m = string(label, &seed);
+    let x = hash::end_block(cs, &kept[0..128], 128, hash::last_block(&m));
+    let bytes = hash::end_block(cs, &kept[128..], 256, hash::last_block(&x));
+    KeyAnswer { code: 0, bytes }
+}
+
 // The key derived from the words of a kept key, a label and a seed; another number of words: 1.
 pub fn derive_kept(kept: &[u64], label: [u8; 4], seed: [u8; 8]) -> KeyAnswer
     ensures { λ r. ⌜ r ≡ derivationKept (now (kept .entry)) label seed ⌝ }
 {
-    if kept.len() != KEPT_WORDS {
-        return KeyAnswer {
-            code: 1,
-            bytes: [0; 32],
-        };
-    }
-    let x = hash::end_ahead(&kept[0..128], &string(label, &seed));
-    let bytes = hash::end_ahead(&kept[128..], &x);
-    KeyAnswer { code: 0, bytes }
+    let cs = rounds::iteration_constants();
+    derive_kept_over(&cs, kept, label, seed)
 }

@@ -10,8 +10,7 @@ use Rattle.answers.specs.declared.BlockAnswer.{BlockAnswer}
 use Rattle.answers.specs.Refusals.{number}
 use Rattle.answers.specs.Answers.{noBlock}
 use Rattle.cipher.specs.declared.CodeAnswer.{CodeAnswer}
-use Rattle.derive.specs.declared.KeyAnswer.{KeyAnswer}
-use Rattle.keys.specs.declared.IdnAnswer.{IdnAnswer}
+use Rattle.answers.specs.declared.KeyAnswer.{KeyAnswer}
 use Rattle.pin.specs.declared.PinRead.{PinRead}
 use Rattle.cryptogram.specs.declared.KindRead.{KindRead}
 use Rattle.cryptogram.specs.declared.KindRead.the-variants.{Known, Unknown}
@@ -43,7 +42,7 @@ abbrev pub GivenCode : CodeAnswer → List ℕ → ℕ → List ℕ → Type 0
 GivenCode a lent r after = Given 4 (a .code) (a .bytes) lent r after
 
 -- an IDN has as many bytes as the slice lent for it
-abbrev pub GivenIdn : IdnAnswer → List ℕ → ℕ → List ℕ → Type 0
+abbrev pub GivenIdn : BlockAnswer → List ℕ → ℕ → List ℕ → Type 0
 GivenIdn a lent r after = Given (length lent) (a .code) (take (length lent) (a .bytes)) lent r after
 
 -- what a PIN block holds: the number of digits, then the twelve places

@@ -4,25 +4,26 @@ use mathlib.Core.Bool.{Bool, true, false}
 use mathlib.Core.List.{List, [], _++_, append-assoc, append-nil}
 use Prim.Native.Nat.{ℕ, zero, suc, _+_, _-_, _*_, _/_, _<_, _≤_}
 use native.Mathlib.Omega.{arith}
-use borrow.Author.Tests.{eq-eqb, ne-eqb, ltb-true, ltb-false, lt-ltb, le-ltb}
-use lib.Dec.{ltb, lit<, lit≤}
+use borrow.Author.Tests.{eq-eqb, ne-eqb, eqb-true, eqb-false, ltb-true, ltb-false, lt-ltb, le-ltb}
+use lib.Dec.{eqb, ltb, lit<, lit≤}
 use lib.ListN.{length, take, drop, set, replicate, length-append, length-drop, drop-of-length-le}
 use lib.Seq.{paste, take-length, take-all, drop-at}
 use Rattle.octets.proofs.Parts.{zeros}
 use Rattle.blocks.specs.Blocks.{taken, absorbed, tail}
 use Rattle.blocks.proofs.Laws.{absorbed-end, tail-end}
 use Rattle.lps.specs.Vectors.{words}
-use Rattle.rounds.specs.Sums.{vec, _⊞_}
+use Rattle.rounds.specs.Sums.{vec}
+use Rattle.rounds.specs.Rounds.{constants}
 use Rattle.rounds.specs.Lent.{vectorAt, laid}
 use Rattle.rounds.specs.Keys.{keysOf, gBy, gWith}
 use Rattle.rounds.proofs.SumLaws.{length-vec, length-sum}
 use Rattle.rounds.proofs.LentLaws.{vector-in, laid-zeros}
 use Rattle.rounds.proofs.KeyLaws.{length-keys, g-by, with-all}
 use Rattle.hash.specs.declared.Core.{Core}
-use Rattle.hash.specs.Hash.{start, step, advanced, padded, closed, finished}
+use Rattle.hash.specs.Hash.{start, step, afterBlock, advanced, padded, closed, finished}
 use Rattle.hash.specs.States.{filled, stateOf, held, begun, fed, ended}
-use Rattle.hash.specs.Ahead.{aheadOf, coreIn, advancedBy, endedAhead}
-use Rattle.hash.proofs.Laws.{held-stateOf, core-stateOf, length-g}
+use Rattle.hash.specs.Ahead.{aheadOf, coreIn, advancedBy, endedAhead, closedOver, lastBlock, endedBlock}
+use Rattle.hash.proofs.Laws.{held-stateOf, core-stateOf, length-g, length-closed-over, closed-over}
 use Rattle.hash.proofs.BlockLaws.{put-empty, padded-filled}
 
 -- the last block as the code makes it
@@ -31,18 +32,44 @@ padded-put m h =
     ap (λ (b : List ℕ). set b (length m) 1) (put-empty m (length m) (omega arith) (omega arith) ∙ ap filled (take-length m))
     ∙ padded-filled m (length m) refl h
 
-pub ended-not : (a m : List ℕ) → (length a ≡ 128 → ⊥) → replicate 32 0 ≡ endedAhead a m
-unfolding endedAhead
-ended-not a m e = simp (ne-eqb _ _ e)
-
 module _ (a m : List ℕ) (e : length a ≡ 128) where
-  pub ended-short : length m < 64 → closed (advancedBy a (8 * length m) (words (padded m))) ≡ endedAhead a m
+  ended-short : length m < 64 → closed (advancedBy a (8 * length m) (words (padded m))) ≡ endedAhead a m
   unfolding endedAhead
   ended-short h = simp (eq-eqb _ _ e, lt-ltb _ _ h)
 
-  pub ended-long : 64 ≤ length m → ended (fed (stateOf (coreIn a) []) m) ≡ endedAhead a m
+  ended-long : 64 ≤ length m → ended (fed (stateOf (coreIn a) []) m) ≡ endedAhead a m
   unfolding endedAhead
   ended-long h = simp (eq-eqb _ _ e, le-ltb _ _ h)
+
+module _ (m : List ℕ) where
+  pub last-long : 64 ≤ length m → replicate 8 0 ≡ lastBlock m
+  unfolding lastBlock
+  last-long h = simp (le-ltb _ _ h)
+
+  pub last-short : length m < 64 → words (padded m) ≡ lastBlock m
+  unfolding lastBlock
+  last-short h = simp (lt-ltb _ _ h)
+
+module _ (cs : List (List ℕ)) (a : List ℕ) (n : ℕ) (m : List ℕ) where
+  pub block-not : (length a ≡ 128 → ⊥) → replicate 32 0 ≡ endedBlock cs a n m
+  unfolding endedBlock
+  block-not e = simp (ne-eqb _ _ e)
+
+  pub block-ended : length a ≡ 128 → closedOver cs (advancedBy a n m) ≡ endedBlock cs a n m
+  unfolding endedBlock
+  block-ended e = simp (eq-eqb _ _ e)
+
+  pub length-block : length (endedBlock cs a n m) ≡ 32
+  length-block = go (eqb (length a) 128) refl
+    where
+      go : (t : Bool) → eqb (length a) 128 ≡ t → length (endedBlock cs a n m) ≡ 32
+      go true e = ap length (sym (block-ended (eqb-true _ _ e))) ∙ length-closed-over cs (advancedBy a n m)
+      go false e = ap length (sym (block-not (eqb-false _ _ e)))
+
+-- the last block ends what the message ends
+pub ended-block : (a m : List ℕ) → length m < 64 → endedBlock constants a (8 * length m) (lastBlock m) ≡ endedAhead a m
+unfolding endedBlock endedAhead lastBlock
+ended-block a m h = simp (lt-ltb _ _ h, closed-over)
 
 -- the words of a core whose vectors have eight
 abbrev pub Eights : Core → Type 0
@@ -84,7 +111,7 @@ module _ (c : Core) (e : Eights c) where
   unfolding advancedBy advanced
   advanced-by n m =
       let h = ap₂ (λ (ks : List ℕ) (d : Core). gBy ks (d .h) m) keys-in core-in ∙ g-by (c .n) (c .h) m in
-      λ k. record { h = h k; n = core-in k .n ⊞ vec n; sigma = core-in k .sigma ⊞ m }
+      ap₂ (λ (d : Core) (x : List ℕ). afterBlock d x n m) core-in h
 
   -- as the code writes them
   pub ahead-laid : (ks w x y z : List ℕ) → ks ≡ keysOf (c .n) (c .h) → w ≡ laid (zeros 128) 0 (c .h) → x ≡ laid w 8 (c .n) → y ≡ laid x 16 (c .sigma)
@@ -139,7 +166,7 @@ module _ (c : Core) (e : Eights c) (m : List ℕ) where
 
 -- the vectors of a hash under way have eight words
 eights-step : (c : Core) (b : List ℕ) → Eights (step c b)
-unfolding step advanced
+unfolding step advanced afterBlock
 eights-step c b = (length-g (c .n) (c .h) (words b), length-sum (c .n) (vec 512), length-sum (c .sigma) (words b))
 
 eights-taken : (n : ℕ) (c : Core) (m : List ℕ) → Eights c → Eights (taken 64 step n c m)

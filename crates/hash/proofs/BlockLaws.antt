@@ -8,7 +8,7 @@ use lib.Dec.{lit≤}
 use lib.ListN.{length, take, drop, set, getD, replicate, length-append, length-drop}
 use lib.Seq.{paste, paste-suc, length-take-le, set-at, drop-append-add, take-append-seam, getD-drop}
 use Rattle.octets.specs.Numbers.{le, leOctets}
-use Rattle.octets.proofs.Parts.{zeros, drop-zeros, part-part}
+use Rattle.octets.proofs.Parts.{zeros, drop-zeros, part-part, elements, elements-all}
 use Rattle.lps.specs.Vectors.{each, words, bytes}
 use Rattle.lps.proofs.Bytes.{bytes-at}
 use Rattle.hash.specs.Hash.{padded}
@@ -33,11 +33,18 @@ module _ (m : List ℕ) (p : ℕ) (h : p + 64 ≤ length m) where
       ∷ word-of 7 (lit≤ tt) k
       ∷ []
 
--- byte k of the upper half of a vector
-pub upper-at : (v : List ℕ) (k : ℕ) → length v ≡ 8 → k < 32 → getD (leOctets 8 (getD v (4 + k / 8) 0)) (k % 8) 0 ≡ getD (drop 32 (bytes v)) k 0
-upper-at v k n h =
-    let e : (4 + k / 8) * 8 + k % 8 ≡ 32 + k = omega arith in
-    sym (getD-drop 32 (bytes v) k 0 ∙ ap (λ (j : ℕ). getD (bytes v) j 0) (sym e) ∙ bytes-at v (4 + k / 8) (k % 8) (omega arith) (omega arith))
+-- byte k of a vector
+pub byte-at : (v : List ℕ) (k : ℕ) → k < length v * 8 → getD (leOctets 8 (getD v (k / 8) 0)) (k % 8) 0 ≡ getD (bytes v) k 0
+byte-at v k h =
+    let e : k / 8 * 8 + k % 8 ≡ k = omega arith in
+    sym (ap (λ (j : ℕ). getD (bytes v) j 0) (sym e) ∙ bytes-at v (k / 8) (k % 8) (omega arith) (omega arith))
+
+-- the bytes of the upper half of a vector
+pub bytes-upper : (v : List ℕ) → length v ≡ 8 → bytes (drop 4 v) ≡ drop 32 (bytes v)
+unfolding bytes leOctets
+bytes-upper v n =
+    let e : v ≡ elements v 0 0 8 = elements-all v 8 n in
+    ap (λ (x : List ℕ). bytes (drop 4 x)) e ∙ ap (λ (x : List ℕ). drop 32 (bytes x)) (sym e)
 
 -- a turn of the loop that copies
 pub put-turn : (b m : List ℕ) (at from i : ℕ) → at + i < length b → from + i < length m

@@ -1,6 +1,6 @@
 -- What the crates above need: a state holds what it is made with, parts fed one after the other are fed at once, a hash that is
 -- begun, fed and ended is the hash, and a hash is 32 octets. Assumes nothing.
-use mathlib.Core.Path.{_≡_, refl, ap, ap₂, _∙_}
+use mathlib.Core.Path.{_≡_, refl, sym, ap, ap₂, _∙_}
 use mathlib.Core.List.{List, [], _++_, append-assoc}
 use Prim.Native.Nat.{ℕ, _-_, _*_, _<_}
 use native.Mathlib.Nat.{mod-eq-of-lt}
@@ -17,8 +17,9 @@ use Rattle.lps.proofs.Bytes.{length-bytes, octets-bytes}
 use Rattle.hash.specs.declared.Core.{Core}
 use Rattle.hash.specs.declared.State.{State}
 use Rattle.rounds.specs.Sums.{vec}
-use Rattle.rounds.specs.Rounds.{gOver, g}
+use Rattle.rounds.specs.Rounds.{constants, gOver, g}
 use Rattle.hash.specs.Hash.{start, step, advanced, padded, closed, finished, hash256}
+use Rattle.hash.specs.Ahead.{closedOver}
 use Rattle.hash.specs.States.{filled, stateOf, held, begun, fed, ended}
 
 pub held-stateOf : (c : Core) (t : List ℕ) → length t < 64 → held (stateOf c t) ≡ t
@@ -51,23 +52,35 @@ ended-fed m =
     ∙ ap₂ (λ (c : Core) (t : List ℕ). finished (absorbed 64 step c (t ++ m)) (tail 64 (t ++ m)))
     (core-stateOf start []) (held-stateOf start [] (lit< tt))
 
+pub length-over : (cs : List (List ℕ)) (n h m : List ℕ) → length (gOver cs n h m) ≡ 8
+unfolding gOver X
+length-over cs n h m = refl
+
 pub length-g : (n h m : List ℕ) → length (g n h m) ≡ 8
-unfolding g gOver X
-length-g n h m = refl
+unfolding g
+length-g n h m = length-over constants n h m
 
 -- the vector whose upper half is the hash
-abbrev whole : Core → List ℕ
-whole c = g (vec 0) (g (vec 0) (c .h) (c .n)) (c .sigma)
+abbrev whole : List (List ℕ) → Core → List ℕ
+whole cs c = gOver cs (vec 0) (gOver cs (vec 0) (c .h) (c .n)) (c .sigma)
+
+pub length-closed-over : (cs : List (List ℕ)) (c : Core) → length (closedOver cs c) ≡ 32
+unfolding closedOver
+length-closed-over cs c =
+    let n : length (bytes (whole cs c)) ≡ length (whole cs c) * 8 = length-bytes (whole cs c) in
+    length-drop 32 (bytes (whole cs c)) ∙ omega (arith, length-over cs (vec 0) (gOver cs (vec 0) (c .h) (c .n)) (c .sigma))
+
+-- with the constants of the RFC
+pub closed-over : (c : Core) → closedOver constants c ≡ closed c
+unfolding closedOver closed g
+closed-over c = refl
 
 length-closed : (c : Core) → length (closed c) ≡ 32
-unfolding closed
-length-closed c =
-    let n : length (bytes (whole c)) ≡ length (whole c) * 8 = length-bytes (whole c) in
-    length-drop 32 (bytes (whole c)) ∙ omega (arith, length-g (vec 0) (g (vec 0) (c .h) (c .n)) (c .sigma))
+length-closed c = ap length (sym (closed-over c)) ∙ length-closed-over constants c
 
 octets-closed : (c : Core) → Octets (closed c)
-unfolding closed
-octets-closed c = octets-drop 32 (bytes (whole c)) (octets-bytes (whole c))
+unfolding closed g
+octets-closed c = octets-drop 32 (bytes (whole constants c)) (octets-bytes (whole constants c))
 
 pub length-finished : (c : Core) (t : List ℕ) → length (finished c t) ≡ 32
 unfolding finished

@@ -13,9 +13,13 @@ use Rattle.hash.specs.declared.Core.{Core}
 unfoldable pub start : Core
 start = record { h = words (replicate 64 1); n = vec 0; sigma = vec 0 }
 
--- h = g_N(h, m), N = N ⊞ n, Sigma = Sigma ⊞ m: a block m, of which n bits are of the message
+-- N = N ⊞ n, Sigma = Sigma ⊞ m: after a block m that makes h, of which n bits are of the message
+unfoldable pub afterBlock : Core → List ℕ → ℕ → List ℕ → Core
+afterBlock c h n m = record { h = h; n = c .n ⊞ vec n; sigma = c .sigma ⊞ m }
+
+-- and h = g_N(h, m)
 unfoldable pub advanced : Core → ℕ → List ℕ → Core
-advanced c n m = record { h = g (c .n) (c .h) m; n = c .n ⊞ vec n; sigma = c .sigma ⊞ m }
+advanced c n m = afterBlock c (g (c .n) (c .h) m) n m
 
 -- Stage 2: a whole block
 unfoldable pub step : Core → List ℕ → Core

@@ -7,14 +7,15 @@ ghost use lib.Seq.{paste};
 ghost use Rattle.octets.specs.Numbers.{le};
 ghost use Rattle.blocks.specs.Blocks.{absorbed};
 ghost use Rattle.lps.specs.Vectors.{words, bytes};
-ghost use Rattle.rounds.specs.Rounds.{constants};
-ghost use Rattle.hash.specs.Hash.{advanced, step, padded as paddedTo, closed as closedOf, hash256};
+ghost use Rattle.hash.specs.Hash.{afterBlock, advanced, step, padded as paddedTo, hash256};
 ghost use Rattle.hash.specs.States.{begun, fed, ended};
-ghost use Rattle.hash.specs.Ahead.{aheadOf, coreIn, advancedBy, endedAhead};
+ghost use Rattle.hash.specs.Ahead.{aheadOf, coreIn, closedOver, lastBlock, endedBlock};
 use octets::octet;
 use rounds::add;
 use rounds::compress_block;
+use rounds::compress_block_over;
 use rounds::compress_over;
+use rounds::compress_upper;
 use rounds::compress_with;
 use rounds::iteration_constants;
 use rounds::lay;
@@ -83,42 +84,31 @@ fn load(m: &[u8], p: usize) -> [u64; 8]
     ]
 }
 
+// After a block m that makes h, of which so many bits are of the message.
+fn after_block(c: Core, h: [u64; 8], bits: u64, m: [u64; 8]) -> Core
+    ensures { λ r. ⌜ r ≡ afterBlock c h bits m ⌝ }
+{
+    let n = c.n;
+    let sigma = c.sigma;
+    let n2 = add(n, [bits, 0, 0, 0, 0, 0, 0, 0]);
+    let s2 = add(sigma, m);
+    Core {
+        h,
+        n: n2,
+        sigma: s2,
+    }
+}
+
 // A block m, of which so many bits are of the message.
 fn advance(c: Core, bits: u64, m: [u64; 8]) -> Core
     ensures { λ r. ⌜ r ≡ advanced c bits m ⌝ }
 {
     let h = c.h;
     let n = c.n;
-    let sigma = c.sigma;
-    let h2 = compress_block(n, h, m);
-    let n2 = add(n, [bits, 0, 0, 0, 0, 0, 0, 0]);
-    let s2 = add(sigma, m);
-    Core {
-        h: h2,
-        n: n2,
-        sigma: s2,
-    }
+    after_block(c, compress_block(n, h, m), bits, m)
 }
 
-// The same over the constants, which are made once for many blocks.
-fn advance_over(cs: &[[u64; 8]], c: Core, bits: u64, m: [u64; 8]) -> Core
-    requires { ⌜ now cs ≡ constants ⌝ }
-    ensures { λ r. ⌜ r ≡ advanced c bits m ⌝ }
-{
-    let h = c.h;
-    let n = c.n;
-    let sigma = c.sigma;
-    let h2 = compress_over(cs, n, h, m);
-    let n2 = add(n, [bits, 0, 0, 0, 0, 0, 0, 0]);
-    let s2 = add(sigma, m);
-    Core {
-        h: h2,
-        n: n2,
-        sigma: s2,
-    }
-}
-
-// The whole blocks of m from a place on.
+// The whole blocks of m from a place on. The constants are made once for them.
 fn absorb(c: Core, m: &[u8], from: usize) -> Core
     requires { ⌜ from ≤ length (now m) ⌝ }
     ensures { λ r. ⌜ r ≡ absorbed 64 step c (drop from (now (m .entry))) ⌝ }
@@ -130,7 +120,10 @@ fn absorb(c: Core, m: &[u8], from: usize) -> Core
     let mut core = c;
     let mut p = from;
     while 64 <= m.len() - p {
-        core = advance_over(&cs, core, 512, load(m, p));
+        let b = load(m, p);
+        let h = core.h;
+        let n = core.n;
+        core = after_block(core, compress_over(&cs, n, h, b), 512, b);
         p += 64;
     }
     core
@@ -205,31 +198,30 @@ fn padded(b: [u8; 64], n: usize) -> [u8; 64]
     p
 }
 
-// The 32 highest bytes of a vector.
-fn upper(v: [u64; 8]) -> [u8; 32]
-    ensures { λ r. ⌜ r ≡ drop 32 (bytes v) ⌝ }
+// The bytes of the upper half of a vector.
+fn digest(v: [u64; 4]) -> [u8; 32]
+    ensures { λ r. ⌜ r ≡ bytes v ⌝ }
 {
     let mut r = [0; 32];
     let mut k = 0;
     while k < 32 {
-        r[k] = octet(v[4 + k / 8], k);
+        r[k] = octet(v[k / 8], k);
         k += 1;
     }
     r
 }
 
-// The count and the sum taken in, and the upper half.
-fn close(c: Core) -> [u8; 32]
-    ensures { λ r. ⌜ r ≡ closedOf c ⌝ }
+// The count and the sum taken in with the constants cs, and the upper half.
+fn close(cs: &[[u64; 8]], c: Core) -> [u8; 32]
+    ensures { λ r. ⌜ r ≡ closedOver (now (cs .entry)) c ⌝ }
 {
     let h = c.h;
     let n = c.n;
     let sigma = c.sigma;
-    let cs = iteration_constants();
-    upper(compress_over(&cs, [0; 8], compress_over(&cs, [0; 8], h, n), sigma))
+    digest(compress_upper(cs, [0; 8], compress_over(cs, [0; 8], h, n), sigma))
 }
 
-// The hash of all the bytes fed.
+// The hash of all the bytes fed. The constants are made once for its last three compressions.
 pub fn end(s: State) -> [u8; 32]
     ensures { λ r. ⌜ r ≡ ended s ⌝ }
 {
@@ -237,7 +229,12 @@ pub fn end(s: State) -> [u8; 32]
     let buffer = s.buffer;
     let at = s.fill % 64;
     let last = padded(buffer, at);
-    close(advance(core, at as u64 * 8, load(&last, 0)))
+    let m = load(&last, 0);
+    let h = core.h;
+    let n = core.n;
+    let cs = iteration_constants();
+    let c = after_block(core, compress_block_over(&cs, n, h, m), at as u64 * 8, m);
+    close(&cs, c)
 }
 
 // The hash of a message at once.
@@ -273,41 +270,29 @@ fn core_in(a: &[u64]) -> Core
     Core { h, n, sigma }
 }
 
-// A block m, of which so many bits are of the message, by the round keys kept.
-fn advance_with(a: &[u64], bits: u64, m: [u64; 8]) -> Core
-    requires { ⌜ length (now a) ≡ 128 ⌝ }
-    ensures { λ r. ⌜ r ≡ advancedBy (now (a .entry)) bits m ⌝ }
+// The last block of a message of less than a block, padded; of another, zeros.
+pub fn last_block(m: &[u8]) -> [u64; 8]
+    ensures { λ r. ⌜ r ≡ lastBlock (now (m .entry)) ⌝ }
 {
-    let core = core_in(a);
-    let h = core.h;
-    let n = core.n;
-    let sigma = core.sigma;
-    let h2 = compress_with(&a[24..], h, m);
-    let n2 = add(n, [bits, 0, 0, 0, 0, 0, 0, 0]);
-    let s2 = add(sigma, m);
-    Core {
-        h: h2,
-        n: n2,
-        sigma: s2,
+    if 64 <= m.len() {
+        return [0; 8];
     }
+    let mut last = put([0; 64], 0, m, 0, m.len());
+    last[m.len()] = 1;
+    load(&last, 0)
 }
 
-// The hash that m ends, by kept words; 32 zeros where they are not 128. The round keys serve a message of less than a block.
-pub fn end_ahead(a: &[u64], m: &[u8]) -> [u8; 32]
-    ensures { λ r. ⌜ r ≡ endedAhead (now (a .entry)) (now (m .entry)) ⌝ }
+// The hash that a last block ends after kept words, with the constants cs; 32 zeros where the words are not 128.
+pub fn end_block(cs: &[[u64; 8]], a: &[u64], bits: u64, m: [u64; 8]) -> [u8; 32]
+    ensures { λ r. ⌜ r ≡ endedBlock (now (cs .entry)) (now (a .entry)) bits m ⌝ }
 {
     if a.len() != 128 {
         return [0; 32];
     }
-    if 64 <= m.len() {
-        let s = State {
-            core: core_in(a),
-            buffer: [0; 64],
-            fill: 0,
-        };
-        return end(feed(s, m));
-    }
-    let mut last = put([0; 64], 0, m, 0, m.len());
-    last[m.len()] = 1;
-    close(advance_with(a, m.len() as u64 * 8, load(&last, 0)))
+    let core = core_in(a);
+    let h = core.h;
+    close(
+        cs,
+        after_block(core, compress_with(&a[24..], h, m), bits, m),
+    )
 }

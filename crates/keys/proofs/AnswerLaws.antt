@@ -5,6 +5,7 @@ use mathlib.Core.List.{List, _++_}
 use Prim.Native.Nat.{ℕ, _-_, _<_, _≤_}
 use borrow.Author.Tests.{eq-eqb, ne-eqb, le-leb, lt-leb, not-true, not-false}
 use lib.ListN.{length, take, replicate}
+use Rattle.answers.specs.Answers.{aKey, noBlock, noKey}
 use Rattle.octets.specs.Lengths.{keyFits}
 use Rattle.octets.specs.Numbers.{beOctets, leOctets}
 use Rattle.gost.specs.Gost.{encipher}
@@ -12,15 +13,14 @@ use Rattle.answers.specs.declared.BlockAnswer.{BlockAnswer}
 use Rattle.cipher.specs.Answers.{enciphered}
 use Rattle.cipher.proofs.AnswerLaws.{fits as block-fits}
 use Rattle.hash.specs.Hash.{hash256}
-use Rattle.derive.specs.declared.KeyAnswer.{KeyAnswer}
+use Rattle.answers.specs.declared.KeyAnswer.{KeyAnswer}
 use Rattle.derive.specs.Derivation.{cardLabel}
 use Rattle.derive.specs.Kept.{kept}
-use Rattle.derive.specs.Answers.{seedFits, noKey, yes, cardDerivation, derivationKept}
+use Rattle.derive.specs.Answers.{seedFits, cardDerivation, derivationKept}
 use Rattle.derive.proofs.Laws.{fits, card-seed, derivation-kept}
-use Rattle.keys.specs.declared.SeedAnswer.{SeedAnswer}
 use Rattle.keys.specs.CardNumber.{cardFits, Y}
 use Rattle.keys.specs.Seeds.{sessionSeed, idnBlock}
-use Rattle.keys.specs.Answers.{cardAnswer, seedAnswer, sessionKey, scriptKey, sessionKeyKept, scriptKeyKept, counterKey, idn, noIdn, idnAnswer}
+use Rattle.keys.specs.Answers.{cardAnswer, seedAnswer, sessionKey, scriptKey, sessionKeyKept, scriptKeyKept, counterKey, idn, idnAnswer}
 
 module _ (key pan : List ℕ) (q : ℕ) (y : List ℕ) where
   pub card-no-key : (length key ≡ 32 → ⊥) → noKey 1 ≡ cardAnswer key pan q y
@@ -36,13 +36,13 @@ module _ (key pan : List ℕ) (q : ℕ) (y : List ℕ) where
   card-yes h t e n l = sym (fits key cardLabel y h ∙ card-seed key y l) ∙ sym (simp (eq-eqb _ _ h, sym e ∙ not-false t n))
 
 module _ (pan : List ℕ) (q : ℕ) (t : Bool) (e : t ≡ cardFits pan q) where
-  pub seed-no : not t ≡ true → _≡_ {A = SeedAnswer} (record { code = 2; bytes = replicate 8 0 }) (seedAnswer pan q)
+  pub seed-no : not t ≡ true → _≡_ {A = BlockAnswer} (record { code = 2; bytes = replicate 8 0 }) (seedAnswer pan q)
   unfolding seedAnswer
   seed-no n = simp (sym e ∙ not-true t n)
 
-  pub seed-yes : not t ≡ false → (y : List ℕ) → y ≡ Y pan q → _≡_ {A = SeedAnswer} (record { code = 0; bytes = y }) (seedAnswer pan q)
+  pub seed-yes : not t ≡ false → (y : List ℕ) → y ≡ Y pan q → _≡_ {A = BlockAnswer} (record { code = 0; bytes = y }) (seedAnswer pan q)
   unfolding seedAnswer
-  seed-yes n y f = ap {B = SeedAnswer} (λ (x : List ℕ). record { code = 0; bytes = x }) f ∙ sym (simp (sym e ∙ not-false t n))
+  seed-yes n y f = ap {B = BlockAnswer} (λ (x : List ℕ). record { code = 0; bytes = x }) f ∙ sym (simp (sym e ∙ not-false t n))
 
 -- a session key under the kept master key is the session key
 module _ (key : List ℕ) where
@@ -67,20 +67,20 @@ pub counter-no-key : (key : List ℕ) → (length key ≡ 32 → ⊥) → noKey 
 unfolding counterKey keyFits
 counter-no-key key h = simp (ne-eqb _ _ h)
 
-pub counter-yes : (key : List ℕ) → length key ≡ 32 → yes (hash256 key) ≡ counterKey key
+pub counter-yes : (key : List ℕ) → length key ≡ 32 → aKey (hash256 key) ≡ counterKey key
 unfolding counterKey keyFits
 counter-yes key h = simp (eq-eqb _ _ h)
 
 module _ (key : List ℕ) (atc n : ℕ) where
-  pub idn-no-key : (length key ≡ 32 → ⊥) → noIdn ≡ idnAnswer key atc n
+  pub idn-no-key : (length key ≡ 32 → ⊥) → noBlock 1 ≡ idnAnswer key atc n
   unfolding idnAnswer keyFits
   idn-no-key h = simp (ne-eqb _ _ h)
 
-  pub idn-short : n < 2 → noIdn ≡ idnAnswer key atc n
+  pub idn-short : n < 2 → noBlock 1 ≡ idnAnswer key atc n
   unfolding idnAnswer
   idn-short h = simp (lt-leb _ _ h, and-false)
 
-  pub idn-long : 8 < n → noIdn ≡ idnAnswer key atc n
+  pub idn-long : 8 < n → noBlock 1 ≡ idnAnswer key atc n
   unfolding idnAnswer
   idn-long h = simp (lt-leb _ _ h, and-false)
 

@@ -7,18 +7,20 @@ use lib.ListN.{take, replicate}
 use Rattle.octets.specs.Lengths.{keyFits}
 use Rattle.gost.specs.Gost.{encipher}
 use Rattle.hash.specs.Hash.{hash256}
-use Rattle.derive.specs.declared.KeyAnswer.{KeyAnswer}
+use Rattle.answers.specs.declared.Refusal.the-variants.{Input, CardNumber}
+use Rattle.answers.specs.declared.KeyAnswer.{KeyAnswer}
+use Rattle.answers.specs.declared.BlockAnswer.{BlockAnswer}
+use Rattle.answers.specs.Refusals.{number}
+use Rattle.answers.specs.Answers.{aBlock, noBlock, aKey, noKey}
 use Rattle.derive.specs.Derivation.{derived, cardLabel}
-use Rattle.derive.specs.Answers.{seedFits, noKey, yes, cardDerivation, derivationKept}
-use Rattle.keys.specs.declared.IdnAnswer.{IdnAnswer}
-use Rattle.keys.specs.declared.SeedAnswer.{SeedAnswer}
+use Rattle.derive.specs.Answers.{seedFits, cardDerivation, derivationKept}
 use Rattle.keys.specs.CardNumber.{cardFits, Y, packedY}
 use Rattle.keys.specs.Seeds.{sessionSeed, idnBlock}
 
 -- 003, 4.1: a card master key from the seed y; 1 for the issuer's key, then 2 for the card
 unfoldable pub cardAnswer : List ℕ → List ℕ → ℕ → List ℕ → KeyAnswer
 cardAnswer key pan sequence y =
-    cond (keyFits key) (cond (cardFits pan sequence) (yes (derived key cardLabel y)) (noKey 2)) (noKey 1)
+    cond (keyFits key) (cond (cardFits pan sequence) (aKey (derived key cardLabel y)) (noKey (number CardNumber))) (noKey (number Input))
 
 unfoldable pub cardKey : List ℕ → List ℕ → ℕ → KeyAnswer
 cardKey key pan sequence = cardAnswer key pan sequence (Y pan sequence)
@@ -27,8 +29,8 @@ unfoldable pub cardKeyPacked : List ℕ → List ℕ → ℕ → KeyAnswer
 cardKeyPacked key pan sequence = cardAnswer key pan sequence (packedY pan sequence)
 
 -- the seed alone; 2 for the card
-unfoldable pub seedAnswer : List ℕ → ℕ → SeedAnswer
-seedAnswer pan sequence = cond (cardFits pan sequence) (record { code = 0; bytes = Y pan sequence }) (record { code = 2; bytes = replicate 8 0 })
+unfoldable pub seedAnswer : List ℕ → ℕ → BlockAnswer
+seedAnswer pan sequence = cond (cardFits pan sequence) (aBlock (Y pan sequence)) (noBlock (number CardNumber))
 
 -- 003, 4.2.1: for cryptograms, from the transaction counter
 unfoldable pub sessionKey : List ℕ → ℕ → KeyAnswer
@@ -43,18 +45,15 @@ unfoldable pub sessionKeyKept : List ℕ → ℕ → KeyAnswer
 sessionKeyKept ws atc = derivationKept ws cardLabel (sessionSeed atc)
 
 unfoldable pub scriptKeyKept : List ℕ → List ℕ → KeyAnswer
-scriptKeyKept ws cryptogram = cond (seedFits cryptogram) (derivationKept ws cardLabel cryptogram) (noKey 1)
+scriptKeyKept ws cryptogram = cond (seedFits cryptogram) (derivationKept ws cardLabel cryptogram) (noKey (number Input))
 
 -- 002, 4.3.1: the hash of the session key for cryptograms
 unfoldable pub counterKey : List ℕ → KeyAnswer
-counterKey key = cond (keyFits key) (yes (hash256 key)) (noKey 1)
+counterKey key = cond (keyFits key) (aKey (hash256 key)) (noKey (number Input))
 
 -- 004, 4.1: the first n bytes of the enciphered counter; the other places of the answer are zero
 unfoldable pub idn : List ℕ → ℕ → ℕ → List ℕ
 idn key atc n = take n (encipher key (idnBlock atc)) ++ replicate (8 - n) 0
 
-unfoldable pub noIdn : IdnAnswer
-noIdn = record { code = 1; bytes = replicate 8 0 }
-
-unfoldable pub idnAnswer : List ℕ → ℕ → ℕ → IdnAnswer
-idnAnswer key atc n = cond (keyFits key && (leb 2 n && leb n 8)) (record { code = 0; bytes = idn key atc n }) noIdn
+unfoldable pub idnAnswer : List ℕ → ℕ → ℕ → BlockAnswer
+idnAnswer key atc n = cond (keyFits key && (leb 2 n && leb n 8)) (aBlock (idn key atc n)) (noBlock (number Input))

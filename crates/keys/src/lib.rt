@@ -10,19 +10,9 @@ ghost use Rattle.keys.specs.CardNumber.{cardFits, X, sixteen as lastSixt
 ghost use Rattle.keys.specs.Seeds.{sessionSeed};
 ghost use Rattle.keys.specs.Answers.{cardAnswer, cardKey, cardKeyPacked, seedAnswer, counterKey, idnAnswer};
 ghost use Rattle.keys.specs.Answers.{sessionKey, scriptKey, sessionKeyKept, scriptKeyKept};
-use derive::KeyAnswer;
-
-// An IDN in the first places, zeros in the others; or a refusal's number and zeros.
-pub struct IdnAnswer {
-    pub code: u8,
-    pub bytes: [u8; 8],
-}
-
-// The seed of a card master key; or a refusal's number and zeros.
-pub struct SeedAnswer {
-    pub code: u8,
-    pub bytes: [u8; 8],
-}
+use answers::BlockAnswer;
+use answers::KeyAnswer;
+use answers::Refusal;
 
 // Whether card number and sequence number have the form that 01 asks for.
 fn card_fits(pan: &[u8], sequence: u8) -> bool
@@ -100,13 +90,13 @@ fn card_key_by(base: u8, key: &[u8], pan: &[u8], sequence: u8) -> KeyAnswer
 {
     if key.len() != 32 {
         return KeyAnswer {
-            code: 1,
+            code: Refusal::INPUT,
             bytes: [0; 32],
         };
     }
     if !card_fits(pan, sequence) {
         return KeyAnswer {
-            code: 2,
+            code: Refusal::CARD_NUMBER,
             bytes: [0; 32],
         };
     }
@@ -129,17 +119,17 @@ pub fn card_key_packed(issuer: &[u8], pan: &[u8], sequence: u8) -> KeyAnswer
 }
 
 // The seed Y of a card's master keys, for whoever keeps the issuer's key; 2: the card.
-pub fn card_seed(pan: &[u8], sequence: u8) -> SeedAnswer
+pub fn card_seed(pan: &[u8], sequence: u8) -> BlockAnswer
     ensures { λ r. ⌜ r ≡ seedAnswer (now (pan .entry)) sequence ⌝ }
 {
     if !card_fits(pan, sequence) {
-        return SeedAnswer {
-            code: 2,
+        return BlockAnswer {
+            code: Refusal::CARD_NUMBER,
             bytes: [0; 8],
         };
     }
     let bytes = pair_up(10, sixteen(pan, sequence));
-    SeedAnswer { code: 0, bytes }
+    BlockAnswer { code: 0, bytes }
 }
 
 // The seed of a session key for cryptograms: the counter, f0, five 00.
@@ -177,7 +167,7 @@ pub fn script_key_kept(kept: &[u64], cryptogram: &[u8]) -> KeyAnswer
 {
     if cryptogram.len() != 8 {
         return KeyAnswer {
-            code: 1,
+            code: Refusal::INPUT,
             bytes: [0; 32],
         };
     }
@@ -200,7 +190,7 @@ pub fn counter_key(session: &[u8]) -> KeyAnswer
 {
     if session.len() != 32 {
         return KeyAnswer {
-            code: 1,
+            code: Refusal::INPUT,
             bytes: [0; 32],
         };
     }
@@ -223,25 +213,25 @@ fn first(b: [u8; 8], n: u8) -> [u8; 8]
     out
 }
 
-// The IDN of n bytes, n from 2 to 8, under an IDN key; else 1.
-pub fn idn(key: &[u8], counter: u16, n: u8) -> IdnAnswer
+// The IDN of n bytes, n from 2 to 8, under an IDN key, with zeros after it; else 1.
+pub fn idn(key: &[u8], counter: u16, n: u8) -> BlockAnswer
     ensures { λ r. ⌜ r ≡ idnAnswer (now (key .entry)) counter n ⌝ }
 {
     if key.len() != 32 {
-        return IdnAnswer {
-            code: 1,
+        return BlockAnswer {
+            code: Refusal::INPUT,
             bytes: [0; 8],
         };
     }
     if n < 2 {
-        return IdnAnswer {
-            code: 1,
+        return BlockAnswer {
+            code: Refusal::INPUT,
             bytes: [0; 8],
         };
     }
     if n > 8 {
-        return IdnAnswer {
-            code: 1,
+        return BlockAnswer {
+            code: Refusal::INPUT,
             bytes: [0; 8],
         };
     }
@@ -249,5 +239,5 @@ pub fn idn(key: &[u8], counter: u16, n: u8) -> IdnAnswer
     let r = cipher::encipher(key, &[c[0], c[1], 0, 0, 0, 0, 0, 0]);
     let b = r.bytes;
     let bytes = first(b, n);
-    IdnAnswer { code: 0, bytes }
+    BlockAnswer { code: 0, bytes }
 }

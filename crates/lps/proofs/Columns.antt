@@ -7,15 +7,16 @@ use Prim.Native.Nat.{ℕ, zero, suc, _+_, _-_, _*_, _/_, _%_, _<_, _≤_}
 use native.Mathlib.Nat.{add-zero, eq-or-lt-of-le}
 use native.Mathlib.Numerals.{add-one}
 use native.Mathlib.Omega.{arith}
-use lib.Bits.{bitXor, xor-zero-r}
-use lib.Dec.{T, ltb, nltb→le, lit<}
-use lib.ListN.{length, getD, set, drop, replicate, length-set, getD-replicate, drop-of-length-le}
-use lib.Seq.{sets, sets-eq, drop-cons, drop-drop, getD-drop, getD-set-same, getD-set-other, take-all}
+use borrow.Author.Tests.{not-true, not-false}
+use lib.Bits.{bitXor}
+use lib.Dec.{T, ltb, nltb→le, lit<, lit≤}
+use lib.ListN.{length, getD, set, drop, length-set, drop-of-length-le}
+use lib.Seq.{sets, sets-eq, drop-cons, drop-drop, getD-drop, getD-set-same, getD-set-other}
 use Rattle.octets.specs.Numbers.{leOctets}
-use Rattle.octets.proofs.Parts.{elements-part}
+use Rattle.octets.proofs.Parts.{elements, elements-all}
 use Rattle.tables.specs.Matrix.{entry, entryAt}
 use Rattle.lps.specs.Vectors.{each, X, LPS}
-use Rattle.lps.specs.Inner.{looked, byteAt, bytesAt, Eight, Shifted, Spread}
+use Rattle.lps.specs.Inner.{looked, byteAt, bytesAt, Eight, Shifted, Spread, firstOf, Skipped}
 use Rattle.lps.proofs.Each.{each-equal, each-at}
 use Rattle.lps.proofs.Words.{lps-at, length-LPS}
 
@@ -34,6 +35,38 @@ apart-at v (suc (suc (suc (suc (suc i))))) h = absurd (omega arith)
 pub spread-at : (a b : List ℕ) → Spread (X a b) (apart (each (λ i. bitXor (getD a i 0) (getD b i 0))))
 unfolding X
 spread-at a b = (refl, apart-at (each (λ i. bitXor (getD a i 0) (getD b i 0))))
+
+-- word j without its lowest four bytes
+abbrev shorter : List ℕ → ℕ → List ℕ
+shorter x j = set x (2 * j) (getD x (2 * j) 0 / 256 / 256 / 256 / 256)
+
+-- the five words, one after the other
+abbrev shortened : List ℕ → List ℕ
+shortened x = shorter (shorter (shorter (shorter (shorter x 0) 1) 2) 3) 4
+
+shortened-at : (x : List ℕ) (j : ℕ) → j < 5
+    → leOctets 4 (getD (shortened (elements x 0 0 10)) (2 * j) 0) ≡ drop 4 (leOctets 8 (getD (elements x 0 0 10) (2 * j) 0))
+unfolding leOctets
+shortened-at x zero h = refl
+shortened-at x (suc zero) h = refl
+shortened-at x (suc (suc zero)) h = refl
+shortened-at x (suc (suc (suc zero))) h = refl
+shortened-at x (suc (suc (suc (suc zero)))) h = refl
+shortened-at x (suc (suc (suc (suc (suc i))))) h = absurd (omega arith)
+
+module _ (t : Bool) (x : List ℕ) (n : length x ≡ 10) where
+  pub skipped-none : not t ≡ true → (0 ≡ firstOf t) × Skipped 0 x x
+  skipped-none e = (ap firstOf (sym (not-true t e)), (n, λ j l. refl))
+
+  pub skipped-upper : not t ≡ false → (4 ≡ firstOf t) × Skipped 4 x (shortened x)
+  skipped-upper e = (
+    ap firstOf (sym (not-false t e)),
+    subst (λ (y : List ℕ). Skipped 4 y (shortened y)) (sym (elements-all x 10 n)) (refl, shortened-at x),
+  )
+
+pub first-fits : (t : Bool) → firstOf t ≤ 8
+first-fits true = lit≤ tt
+first-fits false = lit≤ tt
 
 -- word b of table j
 entry-at : (j b : ℕ) → j < 8 → b < 256 → entryAt (256 * j + b) ≡ entry j b
@@ -136,16 +169,17 @@ module _ (x₀ p q r : List ℕ) (k : ℕ) where
         (u .long, λ i l. u .past i (omega arith) l),
       )
 
--- k words of the answer are made of the words of y: of the first five the lowest k bytes are gone
-module _ (s₀ y : List ℕ) (n : length y ≡ 8) where
+-- the words of the answer before word k are made of the words of y, from word t on: of the first five the lowest k bytes are gone
+module _ (t : ℕ) (s₀ y : List ℕ) (n : length y ≡ 8) where
   pub record Made (s x : List ℕ) (k : ℕ) : Type 0 where
     pub upto : k ≤ 8
     pub long : length x ≡ 10
-    pub words : sets s k (drop k (LPS y)) ≡ sets s₀ 0 (LPS y)
+    pub words : sets s k (drop k (LPS y)) ≡ sets s₀ t (drop t (LPS y))
     pub left : (j : ℕ) → j < 5 → leOctets (8 - k) (getD x (2 * j) 0) ≡ drop k (leOctets 8 (getD y j 0))
 
-  pub made-start : (x : List ℕ) → Spread y x → Made s₀ x 0
-  made-start x h = record { upto = omega arith; long = h .0; words = refl; left = λ j l. ap (leOctets 8) (h .1 j l) }
+  pub made-start : (x z : List ℕ) → t ≤ 8 → Spread y x → Skipped t x z → Made s₀ z t
+  made-start x z l h k =
+      record { upto = l; long = k .0; words = refl; left = λ j i. k .1 j i ∙ ap (λ (w : ℕ). drop t (leOctets 8 w)) (h .1 j i) }
 
   -- the words after the fifth
   pub record Rest (p q r : List ℕ) : Type 0 where
@@ -185,28 +219,28 @@ module _ (s₀ y : List ℕ) (n : length y ≡ 8) where
     made-next ev sh =
         let m : length (LPS y) ≡ 8 = length-LPS y in
         let e : v ≡ getD (LPS y) k 0 = ev ∙ ap (looked 0 0) (each-equal byte) ∙ sym (lps-at y n k h) in
-        let t : drop k (LPS y) ≡ v ∷ drop (k + 1) (LPS y) =
+        let d₁ : drop k (LPS y) ≡ v ∷ drop (k + 1) (LPS y) =
         drop-cons (LPS y) k 0 (omega arith) ∙ ap₂ (λ (z i : ℕ). z ∷ drop i (LPS y)) (sym e) (sym (add-one k)) in
         record {
           upto = omega arith;
           long = sh .0;
-          words = ap (λ (i : ℕ). sets (set s k v) i (drop (k + 1) (LPS y))) (add-one k) ∙ ap (sets s k) (sym t) ∙ d .words;
+          words = ap (λ (i : ℕ). sets (set s k v) i (drop (k + 1) (LPS y))) (add-one k) ∙ ap (sets s k) (sym d₁) ∙ d .words;
           left =
               λ j l. ap (leOctets (8 - (k + 1))) (sh .1 j l)
               ∙ ap (drop 1) (step j l)
               ∙ drop-drop 1 k (leOctets 8 (getD y j 0));
         }
 
-  pub made-done : (s x : List ℕ) (k : ℕ) → 8 ≤ k → Made s x k → s ≡ sets s₀ 0 (LPS y)
+  pub made-done : (s x : List ℕ) (k : ℕ) → 8 ≤ k → Made s x k → s ≡ sets s₀ t (drop t (LPS y))
   made-done s x k h d =
       let e : k ≡ 8 = omega (arith, d .upto) in
       let z : [] ≡ drop k (LPS y) = sym (drop-of-length-le (LPS y) {i = k} (omega (arith, length-LPS y))) in
       ap (sets s k) z ∙ d .words
 
-pub rest-of : (a b p q r : List ℕ) {n : length (X a b) ≡ 8} → p ≡ leOctets 8 (bitXor (getD a 5 0) (getD b 5 0)) → q ≡ leOctets 8 (bitXor (getD a 6 0) (getD b 6 0))
-    → r ≡ leOctets 8 (bitXor (getD a 7 0) (getD b 7 0)) → Rest a (X a b) n p q r
+pub rest-of : (t : ℕ) (a b p q r : List ℕ) {n : length (X a b) ≡ 8} → p ≡ leOctets 8 (bitXor (getD a 5 0) (getD b 5 0)) → q ≡ leOctets 8 (bitXor (getD a 6 0) (getD b 6 0))
+    → r ≡ leOctets 8 (bitXor (getD a 7 0) (getD b 7 0)) → Rest t a (X a b) n p q r
 unfolding X
-rest-of a b p q r e f g = record { five = e; six = f; seven = g }
+rest-of t a b p q r e f g = record { five = e; six = f; seven = g }
 
 pub length-X : (a b : List ℕ) → length (X a b) ≡ 8
 unfolding X
@@ -218,10 +252,3 @@ turned s v n =
     let m : length (LPS v) ≡ 8 = length-LPS v in
     let z : drop (0 + length (LPS v)) s ≡ [] = drop-of-length-le s {i = 0 + length (LPS v)} (omega arith) in
     sets-eq (LPS v) s 0 (omega arith) ∙ ap (λ (t : List ℕ). LPS v ++ t) z ∙ append-nil (LPS v)
-
-pub X-zero : (a : List ℕ) → length a ≡ 8 → X a (replicate 8 0) ≡ a
-unfolding X
-X-zero a n =
-    each-equal (λ i h. ap (bitXor (getD a i 0)) (getD-replicate 8 i 0 0 h) ∙ xor-zero-r (getD a i 0))
-    ∙ sym (elements-part a 0 8 (omega arith))
-    ∙ take-all 8 a (omega arith)

@@ -1,11 +1,12 @@
 -- What private functions of this crate promise each other. Assumes nothing.
 use mathlib.Core.Path.{_≡_}
-use mathlib.Core.Bool.{cond}
+use mathlib.Core.Bool.{Bool, cond}
 use mathlib.Core.List.{List, [], _∷_}
 use Prim.Native.Nat.{ℕ, suc, _-_, _*_, _/_, _%_, _<_}
 use lib.Bits.{bitXor}
 use lib.Dec.{ltb}
-use lib.ListN.{length, getD}
+use lib.ListN.{length, getD, drop}
+use Rattle.octets.specs.Numbers.{leOctets}
 use Rattle.tables.specs.Matrix.{entry}
 use Rattle.lps.specs.Vectors.{each}
 
@@ -33,3 +34,11 @@ Shifted x y = (length y ≡ 10) × ((j : ℕ) → j < 5 → getD y (2 * j) 0 ≡
 -- the first five words of a vector at the even places
 abbrev pub Spread : List ℕ → List ℕ → Type 0
 Spread v x = (length x ≡ 10) × ((j : ℕ) → j < 5 → getD x (2 * j) 0 ≡ getD v j 0)
+
+-- the first word of the answer that is asked for
+abbrev pub firstOf : Bool → ℕ
+firstOf upper = cond upper 4 0
+
+-- the first five words without their lowest k bytes
+abbrev pub Skipped : ℕ → List ℕ → List ℕ → Type 0
+Skipped k x y = (length y ≡ 10) × ((j : ℕ) → j < 5 → leOctets (8 - k) (getD y (2 * j) 0) ≡ drop k (leOctets 8 (getD x (2 * j) 0)))

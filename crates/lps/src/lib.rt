@@ -7,11 +7,11 @@ ghost use mathlib.Core.Path.{_≡_};
 ghost use mathlib.Core.Bool.{cond};
 ghost use Prim.Native.Nat.{_*_, _/_, _<_};
 ghost use lib.Dec.{ltb};
-ghost use lib.ListN.{length, getD, set};
+ghost use lib.ListN.{length, getD, set, drop};
 ghost use lib.Seq.{sets};
 ghost use Rattle.octets.specs.Numbers.{leOctets};
 ghost use Rattle.lps.specs.Vectors.{LPS, X};
-ghost use Rattle.lps.specs.Inner.{looked, byteAt, bytesAt, Eight, Shifted, Spread};
+ghost use Rattle.lps.specs.Inner.{looked, byteAt, bytesAt, Eight, Shifted, Spread, firstOf, Skipped};
 use tables::word;
 
 // The eight bytes of a word, lowest first.
@@ -55,6 +55,22 @@ fn spread(a: &[u64; 8], b: &[u64; 8]) -> [u64; 10]
     ]
 }
 
+// The first word of the answer that is asked for: 4 for the upper half, else 0. The bytes that no such word needs go from x.
+fn skip(x: &mut [u64; 10], upper: bool) -> usize
+    requires { ⌜ length (now x) ≡ 10 ⌝ }
+    ensures { λ r. ⌜ (r ≡ firstOf upper) × Skipped r (now (x .entry)) (now (x .exit)) ⌝ }
+{
+    if !upper {
+        return 0;
+    }
+    x[0] = x[0] / 256 / 256 / 256 / 256;
+    x[2] = x[2] / 256 / 256 / 256 / 256;
+    x[4] = x[4] / 256 / 256 / 256 / 256;
+    x[6] = x[6] / 256 / 256 / 256 / 256;
+    x[8] = x[8] / 256 / 256 / 256 / 256;
+    4
+}
+
 // The lowest byte of word j of x, which loses it; after the fifth word, byte k of u, v or w.
 fn byte(x: &mut [u64; 10], u: &[u8], v: &[u8], w: &[u8], k: usize, j: usize) -> usize
     requires { ⌜ (length (now x) ≡ 10) × Eight (now u) (now v) (now w) × (k < 8) × (j < 8) ⌝ }
@@ -95,26 +111,31 @@ fn column(x: &mut [u64; 10], u: &[u8], v: &[u8], w: &[u8], k: usize) -> u64
     r
 }
 
-// LPS X[s](b) in the place of s, vectors of eight words, lowest first. `sets` writes the eight words over s: a lent array does not tell its length.
-pub fn turn(s: &mut [u64; 8], b: &[u64; 8])
-    ensures { λ _. ⌜ now (s .exit) ≡ sets (now (s .entry)) 0 (LPS (X (now (s .entry)) (now (b .entry)))) ⌝ }
+// LPS X[s](b) in the place of s: all eight words, or the upper four alone.
+fn turn_from(s: &mut [u64; 8], b: &[u64; 8], upper: bool)
+    ensures { λ _. ⌜ now (s .exit) ≡ sets (now (s .entry)) (firstOf upper) (drop (firstOf upper) (LPS (X (now (s .entry)) (now (b .entry))))) ⌝ }
 {
     let mut x = spread(s, b);
     let u = bytes_of(s[5] ^ b[5]);
     let v = bytes_of(s[6] ^ b[6]);
     let w = bytes_of(s[7] ^ b[7]);
-    let mut k = 0;
+    let mut k = skip(&mut x, upper);
     while k < 8 {
         s[k] = column(&mut x, &u, &v, &w, k);
         k += 1;
     }
 }
 
-// LPS of a vector of eight words, lowest first.
-pub fn lps(a: [u64; 8]) -> [u64; 8]
-    ensures { λ r. ⌜ r ≡ LPS a ⌝ }
+// LPS X[s](b) in the place of s, vectors of eight words, lowest first. `sets` writes the eight words over s: a lent array does not tell its length.
+pub fn turn(s: &mut [u64; 8], b: &[u64; 8])
+    ensures { λ _. ⌜ now (s .exit) ≡ sets (now (s .entry)) 0 (LPS (X (now (s .entry)) (now (b .entry)))) ⌝ }
 {
-    let mut s = a;
-    turn(&mut s, &[0; 8]);
-    s
+    turn_from(s, b, false);
+}
+
+// The upper four words of LPS X[s](b) in their places of s, for whoever needs no others: half the work.
+pub fn turn_upper(s: &mut [u64; 8], b: &[u64; 8])
+    ensures { λ _. ⌜ now (s .exit) ≡ sets (now (s .entry)) 4 (drop 4 (LPS (X (now (s .entry)) (now (b .entry))))) ⌝ }
+{
+    turn_from(s, b, true);
 }

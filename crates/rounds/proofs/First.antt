@@ -10,7 +10,11 @@ use Rattle.lps.specs.Vectors.{bytes, words, tau, X, S, P, L, LPS}
 use Rattle.rounds.specs.Constants.{C}
 use Rattle.rounds.specs.Sums.{vec, lowest}
 use Rattle.rounds.specs.Rounds.{constants}
-use Rattle.rounds.specs.Keys.{schedule, keysOf, firstKeys}
+use Rattle.rounds.specs.Keys.{schedule, keysOf}
+
+-- the round keys of the first block of every hash, where N is 0 and h is IV, 64 bytes 01
+unfoldable pub firstKeys : List ℕ
+firstKeys = keysOf (replicate 8 0) (replicate 8 0x0101010101010101)
 
 abbrev K1 : List ℕ
 K1 =

@@ -1,19 +1,22 @@
 -- g by its round keys is g, and the keys are what the rounds over the constants give. Assumes nothing.
 use mathlib.Core.Path.{_≡_, refl, sym, ap, ap₂, _∙_}
+use mathlib.Core.Bool.{Bool, true, false, cond, and-eq-true-iff}
 use mathlib.Core.List.{List, [], _∷_, _++_, append-assoc, append-nil}
 use Prim.Native.Nat.{ℕ, suc, _+_, _-_, _*_, _<_, _≤_}
 use native.Mathlib.Numerals.{add-one}
 use native.Mathlib.Omega.{arith}
 use borrow.Author.Tests.{eq-eqb, ne-eqb}
 use lib.Bits.{bitXor, xor-comm}
-use lib.ListN.{length, getD, take, drop, replicate, length-append, drop-of-length-le, List·getD-append}
-use lib.Seq.{paste, take-paste, drop-paste, length-paste, drop-cons, drop-drop, drop-at, take-all}
+use lib.ListN.{length, getD, take, drop, replicate, length-append, length-drop, drop-of-length-le, List·getD-append}
+use lib.Seq.{paste, take-paste, drop-paste, length-paste, drop-cons, drop-drop, drop-at, getD-drop, length-take-le, sets, sets-eq, take-all}
+use Rattle.octets.specs.Same.{same}
+use Rattle.octets.proofs.SameLaws.{same-true}
 use Rattle.lps.specs.Vectors.{each, X, LPS}
 use Rattle.lps.proofs.Each.{each-equal}
 use Rattle.lps.proofs.Words.{length-LPS}
 use Rattle.rounds.specs.Constants.{C}
 use Rattle.rounds.specs.Rounds.{constants, E, gOver, g}
-use Rattle.rounds.specs.Keys.{schedule, keysOf, through, gBy, gWith}
+use Rattle.rounds.specs.Keys.{schedule, keysOf, through, gBy, gWith, isFirst, gFirst, gBlock}
 
 count : length constants ≡ 12
 unfolding constants C
@@ -50,6 +53,22 @@ g-by n h m =
     ap (λ (x : List ℕ). X (X x h) m)
     (ap (λ (i : ℕ). X (drop (8 * i) (schedule constants (LPS (X h n)))) (through i (schedule constants (LPS (X h n))) m)) (sym count)
     ∙ sym (rounds-through constants (LPS (X h n)) m (length-LPS (X h n))))
+
+-- the first block
+pub g-first : (n h m : List ℕ) → isFirst n h ≡ true → gFirst h m ≡ g n h m
+unfolding gFirst isFirst
+g-first n h m e =
+    let b = and-eq-true-iff (same n (replicate 8 0)) (same h (replicate 8 0x0101010101010101)) .0 e in
+    ap (λ (ks : List ℕ). gBy ks h m) (sym (ap₂ keysOf (same-true _ _ (b .0)) (same-true _ _ (b .1)))) ∙ g-by n h m
+
+module _ (cs : List (List ℕ)) (n h m : List ℕ) where
+  pub block-first : isFirst n h ≡ true → gFirst h m ≡ gBlock cs n h m
+  unfolding gBlock
+  block-first e = simp e (g-first n h m e)
+
+  pub block-other : isFirst n h ≡ false → gOver cs n h m ≡ gBlock cs n h m
+  unfolding gBlock
+  block-other e = simp e
 
 -- 13 keys of eight words
 length-schedule : (cs : List (List ℕ)) (k : List ℕ) → length k ≡ 8 → length (schedule cs k) ≡ 8 + 8 * length cs
@@ -119,6 +138,11 @@ module _ (cs : List (List ℕ)) where
   unfolding E
   rounds-end i k s h = ap (λ (l : List (List ℕ)). E l k s) (sym (constants-end i h))
 
+  -- the last round
+  pub rounds-last : (i : ℕ) (k s : List ℕ) → length cs ≡ i + 1 → X (LPS (X k (getD cs i []))) (LPS (X s k)) ≡ E (drop i cs) k s
+  rounds-last i k s e =
+      rounds-end (i + 1) (LPS (X k (getD cs i []))) (LPS (X s k)) (omega arith) ∙ rounds-turn i k s (omega arith)
+
   pub schedule-turn : (i : ℕ) (k : List ℕ) → i < length cs → schedule (drop i cs) k ≡ k ++ schedule (drop (i + 1) cs) (LPS (X k (getD cs i [])))
   unfolding schedule
   schedule-turn i k h = ap (λ (l : List (List ℕ)). schedule l k) (constants-turn i h)
@@ -140,3 +164,40 @@ module _ (all : List ℕ) where
 
   pub filled-end : (b : List ℕ) → Filled 104 b [] → b ≡ all
   filled-end b f = sym (take-all 104 b (omega (arith, f .0))) ∙ sym (append-nil (take 104 b)) ∙ f .1
+
+-- the upper four words
+X-upper : (a b v w : List ℕ) → drop 4 a ≡ drop 4 v → drop 4 b ≡ drop 4 w → drop 4 (X a b) ≡ drop 4 (X v w)
+unfolding X
+X-upper a b v w e f = λ k. at 0 k ∷ at 1 k ∷ at 2 k ∷ at 3 k ∷ []
+  where
+    same : (x y : List ℕ) → drop 4 x ≡ drop 4 y → (i : ℕ) → getD x (4 + i) 0 ≡ getD y (4 + i) 0
+    same x y e i = sym (getD-drop 4 x i 0) ∙ ap (λ (z : List ℕ). getD z i 0) e ∙ getD-drop 4 y i 0
+
+    at : (i : ℕ) → bitXor (getD a (4 + i) 0) (getD b (4 + i) 0) ≡ bitXor (getD v (4 + i) 0) (getD w (4 + i) 0)
+    at i = ap₂ bitXor (same a v e i) (same b w f i)
+
+-- a vector whose upper four words are put in
+put-upper : (s v : List ℕ) → length s ≡ 8 → length v ≡ 8 → drop 4 (sets s 4 (drop 4 v)) ≡ drop 4 v
+put-upper s v n m =
+    let l : length (drop 4 v) ≡ 4 = length-drop 4 v ∙ omega arith in
+    let t : length (take 4 s) ≡ 4 = length-take-le 4 s (omega arith) in
+    let z : drop (4 + length (drop 4 v)) s ≡ [] = drop-of-length-le s {i = 4 + length (drop 4 v)} (omega arith) in
+    ap (drop 4) (sets-eq (drop 4 v) s 4 (omega arith) ∙ ap (λ (x : List ℕ). take 4 s ++ drop 4 v ++ x) z ∙ append-nil (take 4 s ++ drop 4 v))
+    ∙ drop-at (take 4 s) (drop 4 v) 4 t
+
+-- the sum of upper halves, made of a last round in part
+pub upper-made : (k s v w h m : List ℕ) → length k ≡ 8 → length s ≡ 8 → length v ≡ 8 → length w ≡ 8
+    → drop 4 (X (X (X (sets k 4 (drop 4 v)) (sets s 4 (drop 4 w))) h) m) ≡ drop 4 (X (X (X v w) h) m)
+upper-made k s v w h m a b c d =
+    let x : List ℕ = sets k 4 (drop 4 v) in
+    let y : List ℕ = sets s 4 (drop 4 w) in
+    X-upper (X (X x y) h) m (X (X v w) h) m (X-upper (X x y) h (X v w) h (X-upper x y v w (put-upper k v a c) (put-upper s w b d)) refl) refl
+
+-- with the constants of the RFC
+pub g-block : (n h m : List ℕ) → gBlock constants n h m ≡ g n h m
+unfolding gBlock g
+g-block n h m = go (isFirst n h)
+  where
+    go : (t : Bool) → cond t (gOver constants n h m) (gOver constants n h m) ≡ gOver constants n h m
+    go true = refl
+    go false = refl

@@ -1,18 +1,20 @@
 // The round functions of GOST R 34.11-2012 (RFC 6986, section 8) and its sums modulo 2 to the 512, on vectors of eight words, lowest first.
 ghost use mathlib.Core.Path.{_≡_};
 ghost use Prim.Native.Nat.{_+_, _*_, _^_, _<_, _≤_};
+ghost use lib.ListN.{drop};
 ghost use Rattle.octets.specs.Same.{same};
 ghost use Rattle.lps.specs.Vectors.{X};
 ghost use Rattle.rounds.specs.Sums.{_⊞_};
 ghost use Rattle.rounds.specs.Rounds.{constants, gOver, g};
 ghost use Rattle.rounds.specs.Lent.{vectorAt, laid};
-ghost use Rattle.rounds.specs.Keys.{keysOf, gWith};
+ghost use Rattle.rounds.specs.Keys.{keysOf, gWith, isFirst, gFirst, gBlock};
 
 mod constants;
 
 use constants::FIRST_KEYS;
 use constants::ITERATION;
 use lps::turn;
+use lps::turn_upper;
 
 // X[a](b).
 fn xor(a: [u64; 8], b: [u64; 8]) -> [u64; 8]
@@ -141,22 +143,74 @@ pub fn compress_over(c: &[[u64; 8]], n: [u64; 8], h: [u64; 8], m: [u64; 8]) -> [
     xor(xor(xor(k, s), h), m)
 }
 
-// g_n(h, m).
-pub fn compress(n: [u64; 8], h: [u64; 8], m: [u64; 8]) -> [u64; 8]
+// The upper four words of what the rounds have made of key and state, of h and of m, summed.
+fn upper_sum(k: [u64; 8], s: [u64; 8], h: [u64; 8], m: [u64; 8]) -> [u64; 4]
+    ensures { λ r. ⌜ r ≡ drop 4 (X (X (X k s) h) m) ⌝ }
+{
+    [
+        k[4] ^ s[4] ^ h[4] ^ m[4],
+        k[5] ^ s[5] ^ h[5] ^ m[5],
+        k[6] ^ s[6] ^ h[6] ^ m[6],
+        k[7] ^ s[7] ^ h[7] ^ m[7],
+    ]
+}
+
+// The upper four words of g_n(h, m), with a round for each of the constants c: in the last round the upper half is made, and no more.
+pub fn compress_upper(c: &[[u64; 8]], n: [u64; 8], h: [u64; 8], m: [u64; 8]) -> [u64; 4]
+    ensures { λ r. ⌜ r ≡ drop 4 (gOver (now (c .entry)) n h m) ⌝ }
+{
+    let mut k = h;
+    let mut s = m;
+    turn(&mut k, &n);
+    if c.len() == 0 {
+        return upper_sum(k, s, h, m);
+    }
+    let last = c.len() - 1;
+    let mut i = 0;
+    while i < last {
+        turn(&mut s, &k);
+        turn(&mut k, &c[i]);
+        i += 1;
+    }
+    turn_upper(&mut s, &k);
+    turn_upper(&mut k, &c[last]);
+    upper_sum(k, s, h, m)
+}
+
+// Whether n and h are those that every hash starts from.
+fn is_first(n: [u64; 8], h: [u64; 8]) -> bool
+    ensures { λ r. ⌜ r ≡ isFirst n h ⌝ }
+{
+    alike(n, [0; 8]) && alike(h, [0x0101010101010101; 8])
+}
+
+// g_n(h, m) of the first block of a hash, whose round keys are constants.
+fn compress_first(h: [u64; 8], m: [u64; 8]) -> [u64; 8]
+    ensures { λ r. ⌜ r ≡ gFirst h m ⌝ }
+{
+    let keys = FIRST_KEYS;
+    compress_with(&keys, h, m)
+}
+
+// g_n(h, m), of a block that may be the first.
+pub fn compress_block(n: [u64; 8], h: [u64; 8], m: [u64; 8]) -> [u64; 8]
     ensures { λ r. ⌜ r ≡ g n h m ⌝ }
 {
+    if is_first(n, h) {
+        return compress_first(h, m);
+    }
     let c = iteration_constants();
     compress_over(&c, n, h, m)
 }
 
-// g_n(h, m), of a block that may be the first: every hash starts from one n and one h, so the round keys there are constants.
-pub fn compress_block(n: [u64; 8], h: [u64; 8], m: [u64; 8]) -> [u64; 8]
-    ensures { λ r. ⌜ r ≡ g n h m ⌝ }
+// The same, with the constants c where it is not the first.
+pub fn compress_block_over(c: &[[u64; 8]], n: [u64; 8], h: [u64; 8], m: [u64; 8]) -> [u64; 8]
+    ensures { λ r. ⌜ r ≡ gBlock (now (c .entry)) n h m ⌝ }
 {
-    if alike(n, [0; 8]) && alike(h, [0x0101010101010101; 8]) {
-        return compress_with(&FIRST_KEYS, h, m);
+    if is_first(n, h) {
+        return compress_first(h, m);
     }
-    compress(n, h, m)
+    compress_over(c, n, h, m)
 }
 
 struct Sum {

@@ -5,9 +5,9 @@ mod readings;
 ghost use Prim.Native.Nat.{_≤_, _<_};
 ghost use lib.ListN.{length};
 use answers::BlockAnswer;
+use answers::KeyAnswer;
 use cipher::CodeAnswer;
 use cryptogram::Kind;
-use derive::KeyAnswer;
 use libc::STDIN_FILENO;
 use libc::STDOUT_FILENO;
 

@@ -3,7 +3,7 @@ use Prim.Native.Nat.{ℕ, _-_, _*_, _<_, _≤_}
 use native.Mathlib.Omega.{arith}
 use lib.ListN.{drop}
 use borrow.Author.Needs.{needs}
-use Rattle.keys.specs.declared.SeedAnswer.{SeedAnswer}
+use Rattle.answers.specs.declared.BlockAnswer.{BlockAnswer}
 use Rattle.cards.specs.Cards.{allFit}
 use Rattle.cards.proofs.CardLaws.{fit-turn, fit-not, fit-end}
 use Rattle.cards.proofs.all_fit.Statement.{statement}
@@ -27,7 +27,7 @@ returns c =
     let a = c .before .before .before .before .before .before .args in
     let s = c .before .before .seed-at in
     let h : l .i < a .n = search needs in
-    fit-not (a .cards .now) (a .n) (l .i) h (λ e. c .if1 .taken (ap (λ (r : SeedAnswer). r .code) (s .ensures) ∙ e)) ∙ l .inv .1
+    fit-not (a .cards .now) (a .n) (l .i) h (λ e. c .if1 .taken (ap (λ (r : BlockAnswer). r .code) (s .ensures) ∙ e)) ∙ l .inv .1
 
 loop-again : tie.Need-loop-again Inv-loop μ-loop
 loop-again c =
@@ -35,7 +35,7 @@ loop-again c =
     let a = c .before .before .before .before .before .before .args in
     let s = c .before .before .seed-at in
     let h : l .i < a .n = search needs in
-    (omega arith, fit-turn (a .cards .now) (a .n) (l .i) h (sym (ap (λ (r : SeedAnswer). r .code) (s .ensures)) ∙ c .if1 .left) ∙ l .inv .1)
+    (omega arith, fit-turn (a .cards .now) (a .n) (l .i) h (sym (ap (λ (r : BlockAnswer). r .code) (s .ensures)) ∙ c .if1 .left) ∙ l .inv .1)
 
 returns-2 : tie.Need-returns-2 Inv-loop μ-loop
 returns-2 c =

@@ -1,22 +1,20 @@
 use mathlib.Core.Path.{_≡_, ap, ap₂, _∙_}
 use mathlib.Core.List.{List, [], _∷_}
 use Prim.Native.Nat.{ℕ}
+use Rattle.answers.specs.Answers.{aKey, noKey}
 use Rattle.hash.specs.declared.State.{State}
 use Rattle.hash.specs.States.{fed, ended}
 use Rattle.derive.specs.declared.Started.{Started}
 use Rattle.derive.specs.Started.{started}
-use Rattle.derive.specs.Answers.{noKey, yes}
 use Rattle.derive.proofs.Laws.{no-key, fits, derived-parts, key-of-fits}
 use borrow.Author.Needs.{needs}
 use Rattle.derive.proofs.derivation.Statement.{statement}
 use Rattle.derive.proofs.derivation.Tie as tie
 
 returns : tie.Need-returns
-unfolding noKey
 returns c = no-key _ _ _ (c .if1 .taken)
 
 returns-2 : tie.Need-returns-2
-unfolding yes
 returns-2 c =
     let x = c .before .before .before .before .before .before .before .before .before .before .before .before .before .before .before .before .before .before .before .before .args in
     let key = x .key .now in
@@ -29,7 +27,7 @@ returns-2 c =
     let a = two .feed2 .ensures ∙ ap (λ (s : State). fed s label) (two .before .feed .ensures ∙ ap (λ (s : Started). fed (s .inner) (0x01 ∷ [])) k) in
     let b = c .before .before .before .before .before .before .feed4 .ensures ∙ ap (λ (s : State). fed s seed) (c .before .before .before .before .before .before .before .feed3 .ensures ∙ ap (λ (s : State). fed s (0x00 ∷ [])) a) in
     let e = c .before .before .before .end .ensures ∙ ap ended (c .before .before .before .before .feed5 .ensures ∙ ap (λ (s : State). fed s (0x01 ∷ 0x00 ∷ [])) b) in
-    ap yes (c .end2 .ensures ∙ ap ended (c .before .feed6 .ensures ∙ ap₂ (λ (s : Started) (y : List ℕ). fed (s .outer) y) k e) ∙ derived-parts key label seed)
+    ap aKey (c .end2 .ensures ∙ ap ended (c .before .feed6 .ensures ∙ ap₂ (λ (s : Started) (y : List ℕ). fed (s .outer) y) k e) ∙ derived-parts key label seed)
     ∙ fits key label seed l
 
 pub derivation-spec : {M : Type 1} → statement M

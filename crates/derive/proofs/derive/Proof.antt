@@ -1,15 +1,15 @@
 use mathlib.Core.Path.{ap, _∙_}
 use mathlib.Core.List.{List}
 use Prim.Native.Nat.{ℕ}
+use Rattle.answers.specs.Answers.{noKey}
 use Rattle.derive.specs.Derivation.{string, cardLabel}
-use Rattle.derive.specs.Answers.{noKey, maced}
+use Rattle.derive.specs.Answers.{maced}
 use Rattle.derive.proofs.Laws.{derivation-maced, card-no-seed, card-seed}
 use borrow.Author.Needs.{needs}
 use Rattle.derive.proofs.derive.Statement.{statement}
 use Rattle.derive.proofs.derive.Tie as tie
 
 returns : tie.Need-returns
-unfolding noKey
 returns c = card-no-seed _ _ (c .if1 .taken)
 
 returns-2 : tie.Need-returns-2

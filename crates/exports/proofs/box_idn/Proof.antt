@@ -1,10 +1,10 @@
 use denote.Ref.{now}
 use mathlib.Core.Path.{_≡_, refl, sym, subst}
-use Rattle.keys.specs.Answers.{noIdn}
 use native.Mathlib.Omega.{arith}
 use lib.ListN.{length, take}
 use lib.Seq.{length-take-le}
-use Rattle.keys.specs.declared.IdnAnswer.{IdnAnswer}
+use Rattle.answers.specs.Answers.{noBlock}
+use Rattle.answers.specs.declared.BlockAnswer.{BlockAnswer}
 use Rattle.keys.proofs.AnswerLaws.{idn-long}
 use Rattle.exports.specs.Lent.{Given}
 use Rattle.exports.proofs.GiveLaws.{given, given-refused}
@@ -13,11 +13,10 @@ use Rattle.exports.proofs.box_idn.Statement.{statement}
 use Rattle.exports.proofs.box_idn.Tie as tie
 
 returns : tie.Need-returns
-unfolding noIdn
 returns c =
     let x = c .before .before .before .args in
     let o = now (x .out) in
-    subst (λ (a : IdnAnswer). Given (length o) (a .code) (take (length o) (a .bytes)) o 1 o) (idn-long (now (x .key)) (x .counter) (length o) (c .if1 .taken))
+    subst (λ (a : BlockAnswer). Given (length o) (a .code) (take (length o) (a .bytes)) o 1 o) (idn-long (now (x .key)) (x .counter) (length o) (c .if1 .taken))
     (given-refused (length o) 1 _ o refl (λ z. omega arith))
 
 array-share-prefix-bytes : tie.Need-array-share-prefix-bytes
@@ -37,7 +36,7 @@ returns-2 c =
     let k = c .before .before .before .before .before .before .idn in
     let n = length (now (x .out)) in
     let h : length (k .result .bytes) ≡ 8 = search needs in
-    given (λ (a : IdnAnswer). a .code) (λ (a : IdnAnswer). take n (a .bytes)) n (k .ensures) (length-take-le n (k .result .bytes) (omega arith)) (c .before .before .give .ensures)
+    given (λ (a : BlockAnswer). a .code) (λ (a : BlockAnswer). take n (a .bytes)) n (k .ensures) (length-take-le n (k .result .bytes) (omega arith)) (c .before .before .give .ensures)
 
 pub box-idn-spec : {M : Type 1} → statement M
 box-idn-spec =

@@ -1,5 +1,5 @@
 use borrow.Author.Needs.{needs}
-use Rattle.derive.specs.declared.KeyAnswer.{KeyAnswer}
+use Rattle.answers.specs.declared.KeyAnswer.{KeyAnswer}
 use Rattle.exports.proofs.GiveLaws.{given}
 use Rattle.exports.proofs.box_script_key.Statement.{statement}
 use Rattle.exports.proofs.box_script_key.Tie as tie

@@ -1,12 +1,14 @@
 use mathlib.Core.Path.{_≡_, refl, sym, ap, ap₂, _∙_}
-use Prim.Native.Nat.{_≤_, _-_}
+use mathlib.Core.List.{List}
+use Prim.Native.Nat.{ℕ, _≤_, _-_}
 use native.Mathlib.Omega.{arith}
 use lib.Dec.{lit<}
 use lib.ListN.{length, take, drop, length-drop}
 use lib.Seq.{drop-drop}
 use Rattle.blocks.specs.Blocks.{absorbed}
 use Rattle.blocks.proofs.Laws.{absorbed-step, absorbed-end}
-use Rattle.hash.specs.Hash.{advanced, step}
+use Rattle.rounds.specs.Rounds.{constants, gOver, g}
+use Rattle.hash.specs.Hash.{afterBlock, advanced, step}
 use borrow.Author.Needs.{needs}
 use Rattle.hash.proofs.absorb.Statement.{statement}
 use Rattle.hash.proofs.absorb.Tie as tie
@@ -25,16 +27,18 @@ returns c =
 loop-holds : tie.Need-loop-holds Inv-loop μ-loop
 loop-holds c = (omega arith, refl)
 
-advance-over-requires : tie.Need-advance-over-requires Inv-loop μ-loop
-advance-over-requires c κs = c .before .before .before .before .iteration-constants .ensures
-
 loop-again : tie.Need-loop-again Inv-loop μ-loop
-unfolding step
+unfolding step advanced g
 loop-again c =
-    let l = c .before .before .before .before .loop in
-    let m = c .before .before .before .before .before .before .before .before .args .m .now in
+    let l = c .before .before .before .before .before .before .before .loop in
+    let m = c .before .before .before .before .before .before .before .before .before .before .before .args .m .now in
+    let cs = c .before .before .before .before .before .before .before .before .iteration-constants .ensures in
+    let b = c .before .before .before .before .before .load .result in
     let h : 64 ≤ length (drop (l .p) m) = simp length-drop (omega arith) in
-    let e : c .advance-over .result ≡ step (l .core) (take 64 (drop (l .p) m)) = c .advance-over .ensures ∙ ap (advanced (l .core) 512) (c .before .load .ensures) in (
+    let e : c .after-block .result ≡ step (l .core) (take 64 (drop (l .p) m)) =
+    c .after-block .ensures
+    ∙ ap (λ (x : List ℕ). afterBlock (l .core) x 512 b) (c .before .compress-over .ensures ∙ ap (λ (x : List (List ℕ)). gOver x (l .core .n) (l .core .h) b) cs)
+    ∙ ap (λ (x : List ℕ). afterBlock (l .core) (gOver constants (l .core .n) (l .core .h) x) 512 x) (c .before .before .before .before .before .load .ensures) in (
       omega arith,
       ap₂ (absorbed 64 step) e (sym (drop-drop 64 (l .p) m))
           ∙ sym (absorbed-step 64 (lit< tt) step (l .core) (drop (l .p) m) h)
@@ -58,9 +62,10 @@ absorb-spec =
     (λ c κs. search needs)
     loop-holds
     (λ c. search needs)
+    (λ c κs. search needs)
     (λ c. search needs)
     (λ c κs. search needs)
-    advance-over-requires
+    (λ c κs. search needs)
     (λ c. search needs)
     (λ c. search needs)
     loop-again

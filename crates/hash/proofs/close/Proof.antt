@@ -1,34 +1,27 @@
-use mathlib.Core.Path.{ap, ap₂, _∙_}
+use mathlib.Core.Path.{ap, _∙_}
 use mathlib.Core.List.{List}
 use Prim.Native.Nat.{ℕ}
 use lib.ListN.{drop}
 use Rattle.lps.specs.Vectors.{bytes}
 use Rattle.rounds.specs.Sums.{vec, lowest}
-use Rattle.rounds.specs.Rounds.{gOver, g}
-use Rattle.hash.specs.Hash.{closed}
+use Rattle.rounds.specs.Rounds.{gOver}
+use Rattle.hash.specs.Ahead.{closedOver}
+use Rattle.hash.proofs.Laws.{length-over}
+use Rattle.hash.proofs.BlockLaws.{bytes-upper}
 use borrow.Author.Needs.{needs}
 use Rattle.hash.proofs.close.Statement.{statement}
 use Rattle.hash.proofs.close.Tie as tie
 
 returns : tie.Need-returns
-unfolding closed g vec lowest
+unfolding closedOver vec lowest
 returns c =
-    let s = c .before .before .before .before .before .before .before .before .before .args .c in
-    let cs = c .before .before .before .before .before .iteration-constants in
+    let a = c .before .before .before .before .before .before .args in
+    let cs = a .cs .now in
     let z = vec 0 in
-    let first = c .before .before .compress-over .ensures ∙ ap (λ (x : List (List ℕ)). gOver x z (s .h) (s .n)) (cs .ensures) in
-    c .upper .ensures
-    ∙ ap (λ (v : List ℕ). drop 32 (bytes v))
-    (c .before .compress-over2 .ensures ∙ ap₂ (λ (x : List (List ℕ)) (h : List ℕ). gOver x z h (s .sigma)) (cs .ensures) first)
+    let x = gOver cs z (a .c .h) (a .c .n) in
+    c .digest .ensures
+    ∙ ap bytes (c .before .compress-upper .ensures ∙ ap (λ (h : List ℕ). drop 4 (gOver cs z h (a .c .sigma))) (c .before .before .compress-over .ensures))
+    ∙ bytes-upper (gOver cs z x (a .c .sigma)) (length-over cs z x (a .c .sigma))
 
 pub close-spec : {M : Type 1} → statement M
-close-spec =
-    tie.close
-    (tie.spec
-    (λ c κs. search needs)
-    (λ c. search needs)
-    (λ c. search needs)
-    (λ c κs. search needs)
-    (λ c κs. search needs)
-    (λ c κs. search needs)
-    returns)
+close-spec = tie.close (tie.spec (λ c κs. search needs) (λ c κs. search needs) (λ c κs. search needs) returns)

@@ -1,8 +1,9 @@
 use denote.Ref.{now}
 use mathlib.Core.Path.{_≡_, sym, ap, _∙_}
 use borrow.Author.Tests.{not-false}
+use Rattle.answers.specs.Answers.{noKey}
 use Rattle.octets.specs.Digits.{digits}
-use Rattle.derive.specs.Answers.{noKey, cardDerivation}
+use Rattle.derive.specs.Answers.{cardDerivation}
 use Rattle.octets.specs.Digits.{pairs}
 use Rattle.keys.specs.CardNumber.{X, sixteen}
 use Rattle.octets.proofs.DigitLaws.{length-pairs}
@@ -13,11 +14,9 @@ use Rattle.keys.proofs.card_key_by.Statement.{statement}
 use Rattle.keys.proofs.card_key_by.Tie as tie
 
 returns : tie.Need-returns
-unfolding noKey
 returns c = card-no-key _ _ _ _ (c .if1 .taken)
 
 returns-2 : tie.Need-returns-2
-unfolding noKey
 returns-2 c = card-no-card _ _ _ _ (c .before .before .if1 .left) (c .before .card-fits .result) (c .before .card-fits .ensures) (c .if2 .taken)
 
 sixteen-requires : tie.Need-sixteen-requires

@@ -2,10 +2,10 @@ use denote.Ref.{now}
 use mathlib.Core.Path.{ap, _∙_}
 use mathlib.Core.List.{List, [], _∷_}
 use Prim.Native.Nat.{ℕ}
+use Rattle.answers.specs.Answers.{noBlock}
 use Rattle.cipher.specs.Answers.{enciphered}
 use Rattle.octets.specs.Numbers.{beOctets, leOctets}
 use Rattle.keys.specs.Seeds.{idnBlock}
-use Rattle.keys.specs.Answers.{noIdn}
 use Rattle.keys.proofs.AnswerLaws.{idn-no-key, idn-short, idn-long, idn-yes}
 use lib.ListN.{getD}
 use borrow.Author.Needs.{needs}
@@ -13,15 +13,12 @@ use Rattle.keys.proofs.idn.Statement.{statement}
 use Rattle.keys.proofs.idn.Tie as tie
 
 returns : tie.Need-returns
-unfolding noIdn
 returns c = idn-no-key _ _ _ (c .if1 .taken)
 
 returns-2 : tie.Need-returns-2
-unfolding noIdn
 returns-2 c = idn-short _ _ _ (c .if2 .taken)
 
 returns-3 : tie.Need-returns-3
-unfolding noIdn
 returns-3 c = idn-long _ _ _ (c .if3 .taken)
 
 returns-4 : tie.Need-returns-4

@@ -1,14 +1,14 @@
 use mathlib.Core.Path.{_≡_, sym, ap₂, _∙_}
 use lib.ListN.{length}
+use Rattle.answers.specs.Answers.{noKey}
 use Rattle.octets.proofs.Parts.{elements-all}
-use Rattle.derive.specs.Answers.{noKey, derivationKept}
+use Rattle.derive.specs.Answers.{derivationKept}
 use Rattle.keys.proofs.AnswerLaws.{script-no-seed, script-seed}
 use borrow.Author.Needs.{needs}
 use Rattle.keys.proofs.script_key_kept.Statement.{statement}
 use Rattle.keys.proofs.script_key_kept.Tie as tie
 
 returns : tie.Need-returns
-unfolding noKey
 returns c = script-no-seed _ _ (c .if1 .taken)
 
 returns-2 : tie.Need-returns-2

@@ -57,7 +57,8 @@ use Rattle.card.specs.Record.{sound, Kept, kept, withTransaction, withKe
 use Rattle.card.specs.Keys.{sessionKeyOf, smiKey, smcKey, counterKeyOf}
 use Rattle.card.specs.Calls.{Call, Open, IssuerAnswer, Script, Close, Withdraw, Counters, Verdict, refuse, accept, firstStruck, read, judgedScript, judged, grown, cryptogramFor, arpcFor, countersFor}
 use Rattle.card.specs.Calls.{scriptChecks, gives, newPin, newMark, pend, settled, accepted, due, after, reply, plain, step}
-use Rattle.card.specs.Inner.{scriptAs, takenAs, obeyedAs, judgedAs, Fits}
+use Rattle.card.specs.Inner.{scriptAs, takenAs, obeyedAs, judgedAs}
+use Rattle.card.specs.Words.{Fits}
 use Rattle.card.specs.Personalise.{blank, personalised}
 
 -- what is pending laid over what is kept

@@ -10,7 +10,7 @@ use Rattle.transaction.specs.Transaction.{isOpen, none}
 use Rattle.card.specs.declared.Card.{Card}
 use Rattle.card.specs.Record.{sound, Masters, masters, withTransaction}
 use Rattle.card.specs.Calls.{Call, Open, IssuerAnswer, Script, Close, Withdraw, Counters, Verdict, refuse, accept, judged, accepted, spoiledBy, refused, afterBy, after}
-use Rattle.card.specs.Inner.{FitAll}
+use Rattle.card.specs.Words.{FitAll}
 use Rattle.card.proofs.CallLaws.{none-fits}
 
 pub none-fit : (m : Masters) → FitAll [] [] [] m

@@ -1,16 +1,13 @@
--- Helpers of contracts that are not read: a script in an open transaction, and words of master keys. Assumes nothing.
+-- Helpers of private contracts only: a script in an open transaction. Assumes nothing.
 use Prim.Native.Nat.{ℕ}
 use mathlib.Core.Bool.{Bool, true}
 use mathlib.Core.List.{List, []}
-use mathlib.Core.Path.{_≡_}
-use lib.ListN.{length, drop}
-use Rattle.derive.specs.Kept.{kept}
+use lib.ListN.{drop}
 use Rattle.answers.specs.Refusals.{number}
 use Rattle.pin.specs.declared.PinRead.{PinRead}
 use Rattle.shapes.specs.declared.command.Listed.{Listed}
 use Rattle.card.specs.declared.Card.{Card}
 use Rattle.card.specs.declared.Reply.{Reply}
-use Rattle.card.specs.Record.{Masters}
 use Rattle.card.specs.Calls.{Verdict, refuse, accept, firstStruck, Message, scriptChecks, acceptedScript, spoiledBy, plain}
 
 -- the reply by the verdict
@@ -30,10 +27,3 @@ obeyedAs r l b x = scriptAs r (messageWith l b x) (firstStruck (drop 4 (scriptCh
 
 abbrev pub takenAs : Card → Listed → PinRead → Reply
 takenAs r l x = scriptAs r (messageWith l true x) (firstStruck (drop 6 (scriptChecks r [] (messageWith l true x))))
-
--- words lent for a master key: those of the key kept, or none
-abbrev pub Fits : List ℕ → List ℕ → Type 0
-Fits ws key = length ws ≡ 256 → ws ≡ kept key
-
-abbrev pub FitAll : List ℕ → List ℕ → List ℕ → Masters → Type 0
-FitAll ac smi smc m = Fits ac (m .ac) × Fits smi (m .smi) × Fits smc (m .smc)

@@ -21,7 +21,8 @@ ghost use Rattle.transaction.specs.Transaction.{spoilt as spoiltOf};
 ghost use Rattle.card.specs.Record.{sound, kept, withTransaction, withKept};
 ghost use Rattle.card.specs.Keys.{sessionKeyOf, smiKey, smcKey};
 ghost use Rattle.card.specs.Calls.{plain, arpcFor, countersFor, newMark, pend, settled, accepted, gives, reply, read, step, Open, IssuerAnswer, Script, Close, Withdraw, Counters as CountersCall};
-ghost use Rattle.card.specs.Inner.{takenAs, obeyedAs, judgedAs, Fits};
+ghost use Rattle.card.specs.Inner.{takenAs, obeyedAs, judgedAs};
+ghost use Rattle.card.specs.Words.{Fits};
 ghost use Rattle.card.specs.Personalise.{blank as blankAs, personalised};
 
 // The record.
@@ -352,7 +353,7 @@ impl Card {
     }
 
     // Open, of the terminal's 65 bytes: 6, 1, 7.
-    pub fn open(self, input: &[u8]) -> Reply
+    pub fn open(mut self, input: &[u8]) -> Reply
         ensures { λ r. ⌜ r ≡ step self (Open (now (input .entry))) ⌝ }
     {
         self.open_kept(&[], input)
@@ -418,7 +419,7 @@ impl Card {
     }
 
     // A script command, header and message: 6, 1, 4, 5, 7, 8, 9.
-    pub fn script(self, header: &[u8], message: &[u8]) -> Reply
+    pub fn script(mut self, header: &[u8], message: &[u8]) -> Reply
         ensures { λ r. ⌜ r ≡ step self (Script (now (header .entry)) (now (message .entry))) ⌝ }
     {
         self.script_kept(&[], &[], header, message)

@@ -3,3 +3,4 @@ pub mod Unreadable
 pub mod Pieces
 pub mod Calls
 pub mod NoOther
+pub mod Cases

@@ -1,3 +1,4 @@
 pub mod Dispatch
 pub mod Behind
 pub mod Statement
+pub mod Cases

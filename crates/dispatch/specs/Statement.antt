@@ -89,6 +89,6 @@ DemandedOfTraces =
     (h : Held) (l : List ℕ) (x : Loading) (ls : List (List ℕ)) → frameIn l ≡ personalise x → Fresh x → noneBegins ours (map frameIn ls) ≡ true
     → Demanded h l x ls
 
--- And they leave a trace no choice: a box that meets them, put behind the frames in whatever state it comes, answers every trace as ours does
+-- And they leave the box behind the frames no choice: a box that meets them, put behind the frames in whatever state it comes, answers every trace as ours does
 abbrev pub NoOtherTrace : Type 1
 NoOtherTrace = (b : AnyBox) → Demands b → (s : b .State) (text : List ℕ) → tracedBy b s text ≡ traced text

@@ -10,9 +10,11 @@ ghost use mathlib.Core.Path.{_≡_};
 ghost use mathlib.Core.Bool.{true};
 ghost use Prim.Native.Nat.{_+_, _≤_, _/_};
 ghost use lib.ListN.{length, take, drop};
+ghost use Rattle.answers.specs.declared.Refusal.the-variants.{Input};
+ghost use Rattle.answers.specs.Refusals.{number};
 ghost use Rattle.card.specs.Calls.{plain, step, IssuerAnswer, Script, Close, Withdraw, Counters};
 ghost use Rattle.card.specs.Record.{masters};
-ghost use Rattle.card.specs.Inner.{Fits, FitAll};
+ghost use Rattle.card.specs.Words.{Fits, FitAll};
 ghost use Rattle.lines.specs.Lines.{longest, hexadecimal, octetsOf};
 ghost use Rattle.lines.specs.Said.{said};
 ghost use Rattle.frames.specs.Frames.{part, personalisedBy, starts, overlong, bare, called, framed, answerTo};
@@ -152,7 +154,7 @@ fn close(card: Card, rest: &[u8]) -> Reply
 }
 
 fn withdraw(card: Card, rest: &[u8]) -> Reply
-    ensures { λ r. ⌜ r ≡ bare (now (rest .entry)) (step card Withdraw) (plain card 1) ⌝ }
+    ensures { λ r. ⌜ r ≡ bare (now (rest .entry)) (step card Withdraw) (plain card (number Input)) ⌝ }
 {
     if rest.len() != 0 {
         return refused(card, Refusal::INPUT);

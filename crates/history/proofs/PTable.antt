@@ -1,10 +1,10 @@
 -- The examples marked P, and the cases of the table, computed. Assumes nothing.
 use mathlib.Core.Path.{_≡_, refl}
-use mathlib.Core.Bool.{false}
-use mathlib.Core.List.{List}
+use mathlib.Core.Bool.{true, false}
+use mathlib.Core.List.{List, []}
 use Prim.Native.Nat.{ℕ}
 use lib.ListN.{length}
-use borrow.Author.Tests.{eq-eqb}
+use borrow.Author.Tests.{eq-eqb, ne-eqb}
 use Rattle.octets.specs.Numbers.{leOctets, beOctets, be, le}
 use Rattle.octets.specs.Same.{same}
 use Rattle.octets.specs.Digits.{digits, pairs}
@@ -16,16 +16,19 @@ use Rattle.cipher.specs.Answers.{blockFits}
 use Rattle.keys.specs.CardNumber.{X, sixteen, Y}
 use Rattle.pin.specs.PinBlock.{pinFits, halves, fields, pinBlock, wellFormed, pinOf}
 use Rattle.pin.specs.CounterBlock.{counterBlock, countersOf}
-use Rattle.pin.specs.Answers.{found, noPin, writePin, readBlock, readPin}
+use Rattle.pin.specs.Answers.{found, noPin, writePin, readBlock, readPin, decipherPin}
 use Rattle.keys.specs.Seeds.{sessionSeed}
 use Rattle.cryptogram.specs.Answers.{kindNumber}
 use Rattle.cryptogram.specs.Data.{width, widths, fields as dataFields, row, place, counterPlace, issuerPlace, kindPlace, kindBits, marked, cardData}
 use Rattle.transaction.specs.Transaction.{pendingFits, restFits}
 use Rattle.card.specs.Record.{sound}
-use Rattle.card.specs.Keys.{sessionKeyOf, counterKeyOf}
-use Rattle.card.specs.Calls.{IssuerAnswer, plain, step, judgedScript, judged, arpcFor, cryptogramFor, countersFor, due, after}
+use Rattle.card.specs.Keys.{sessionKeyOf, smiKey, smcKey, counterKeyOf}
+use Rattle.shapes.specs.declared.command.Command.the-variants.{SetPin}
+use Rattle.shapes.specs.declared.command.Listed.the-variants.{One}
+use Rattle.message.specs.Code.{codeFits}
+use Rattle.card.specs.Calls.{IssuerAnswer, Script, plain, step, judgedScript, judged, arpcFor, cryptogramFor, countersFor, due, after}
 use Rattle.card.specs.Personalise.{personalised}
-use Rattle.history.specs.Examples.{openAt, Table}
+use Rattle.history.specs.Examples.{openAt, spoiltAt, Table}
 use Rattle.history.specs.Cases.{Cases}
 
 pub p-table : Table
@@ -59,6 +62,11 @@ differs-11 : (arpc csu : List ℕ) → length arpc ≡ 8 → length csu ≡ 4 �
 unfolding same digits pinFits pendingFits restFits sound judged due after
 differs-11 arpc csu a b c = rw (eq-eqb _ _ a, eq-eqb _ _ b, c)
 
+unread-9 : (h m : List ℕ) → length h ≡ 4 → shape m ≡ true → commandOf h (tagOf m) (lengthOf m) ≡ One SetPin → codeFits (smiKey (openAt 0)) h m ≡ true
+    → (decipherPin (smcKey (openAt 0)) (dataOf m) .code ≡ 0 → ⊥) → step (openAt 0) (Script h m) ≡ plain (spoiltAt 0 []) 9
+unfolding same digits pinFits pendingFits restFits sound judged judgedScript due after
+unread-9 h m a b c d e = rw (eq-eqb _ _ a, b, c, d, ne-eqb _ _ e)
+
 pub cases : Cases
 unfolding same leOctets beOctets be le lengthField fieldSays largest largestShort lengthOf placeOf tagFits codeHead body bodySize tagOf dataOf bodyOf codeIn shape headerOf tagFor lengthFor isFor listed firstOf commandOf digits halves wellFormed pinOf pinFits readBlock found noPin countersOf counterBlock kindNumber sessionSeed sessionKeyOf counterKeyOf pendingFits restFits sound judgedScript judged arpcFor cryptogramFor countersFor due after personalised
 cases =
@@ -75,7 +83,7 @@ cases =
       close-6 = refl;
       counters-6 = refl;
       answer-aac = refl;
-      script-9 = λ h m. refl;
+      script-9 = unread-9;
       answer-11 = differs-11;
       withdrawn = refl;
       none-loaded = λ c. refl;

@@ -7,19 +7,23 @@ use lib.ListN.{length, replicate}
 use Rattle.octets.specs.Same.{same}
 use Rattle.shapes.specs.declared.command.Command.the-variants.{SetPin}
 use Rattle.shapes.specs.declared.command.Listed.the-variants.{One}
+use Rattle.shapes.specs.Length.{lengthOf}
+use Rattle.shapes.specs.Shape.{tagOf, dataOf, shape}
 use Rattle.shapes.specs.Command.{commandOf}
 use Rattle.gost.specs.Gost.{subkeys, encipher}
 use Rattle.hash.specs.Hash.{hash256}
 use Rattle.derive.specs.Derivation.{derived, cardLabel}
 use Rattle.pin.specs.declared.PinRead.{PinRead}
-use Rattle.pin.specs.Answers.{noPin}
+use Rattle.pin.specs.Answers.{decipherPin}
+use Rattle.message.specs.Code.{codeFits}
 use Rattle.cryptogram.specs.declared.Kind.the-variants.{Arqc, Aac}
 use Rattle.cryptogram.specs.Cryptogram.{cryptogramOf, arpcOf}
 use Rattle.transaction.specs.Transaction.{none, spoilt, justOpened}
 use Rattle.card.specs.declared.Card.{Card}
 use Rattle.card.specs.declared.Reply.{Reply}
 use Rattle.card.specs.Record.{cardOf, countersAt, withTransaction}
-use Rattle.card.specs.Calls.{Call, Open, IssuerAnswer, Script, Close, Withdraw, Counters, Message, judgedScript, arpcFor, only, gives, newPin, newMark, orders, dueBy, plain, step}
+use Rattle.card.specs.Keys.{smiKey, smcKey}
+use Rattle.card.specs.Calls.{Call, Open, IssuerAnswer, Script, Close, Withdraw, Counters, arpcFor, gives, newPin, newMark, orders, plain, step}
 use Rattle.card.specs.Personalise.{blank, personalised}
 use Rattle.history.specs.Examples.{cardAt, idle, openAt, spoiltAt, both, messageOf}
 
@@ -43,10 +47,6 @@ loadedWith mark block = personalised (replicate 32 1) (replicate 32 2) (replicat
 abbrev pub keyAt : ℕ → ℕ → ℕ → List ℕ
 keyAt n high low = derived (replicate 32 n) cardLabel (high ∷ low ∷ 0xf0 ∷ replicate 5 0)
 
--- a PIN change whose code fits and whose block has no PIN's format
-abbrev pub pinUnread : Message
-pinUnread = record { shaped = true; command = One SetPin; coded = true; block = noPin 9 }
-
 -- an unsound record is 1 and stays
 abbrev pub Unsound : Card → Call → Type 0
 Unsound r c = step r c ≡ plain r 1
@@ -67,7 +67,8 @@ pub record Cases : Type 0 where
   pub close-6 : step idle Close ≡ plain idle 6
   pub counters-6 : step idle Counters ≡ plain idle 6
   pub answer-aac : let r = withTransaction idle (justOpened true (replicate 8 0)) in step r (IssuerAnswer (replicate 8 0) (replicate 4 0)) ≡ plain r 6
-  pub script-9 : (h m : List ℕ) → dueBy (openAt 0) (Script h m) (judgedScript (openAt 0) (replicate 4 0) pinUnread) ≡ only 9
+  pub script-9 : (h m : List ℕ) → length h ≡ 4 → shape m ≡ true → commandOf h (tagOf m) (lengthOf m) ≡ One SetPin → codeFits (smiKey (openAt 0)) h m ≡ true
+      → (decipherPin (smcKey (openAt 0)) (dataOf m) .code ≡ 0 → ⊥) → step (openAt 0) (Script h m) ≡ plain (spoiltAt 0 []) 9
   pub answer-11 : (arpc csu : List ℕ) → length arpc ≡ 8 → length csu ≡ 4 → same arpc (arpcFor (openAt 0) csu) ≡ false → step (openAt 0) (IssuerAnswer arpc csu) ≡ plain (openAt 0) 11
   -- "Withdraw: drops what is pending and ends the transaction."
   pub withdrawn : step (spoiltAt 0 both) Withdraw ≡ plain idle 0

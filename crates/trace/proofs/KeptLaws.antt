@@ -12,7 +12,7 @@ use lib.Seq.{take-all, take-suc, take-suc-set}
 use Rattle.derive.specs.Kept.{kept}
 use Rattle.derive.proofs.Laws.{length-kept}
 use Rattle.card.specs.Record.{Masters, masters}
-use Rattle.card.specs.Inner.{FitAll}
+use Rattle.card.specs.Words.{FitAll}
 use Rattle.lines.specs.declared.Held.{Held}
 use Rattle.lines.specs.Lines.{longest, hexadecimal, octetOf, octetsOf, readable}
 use Rattle.lines.specs.Said.{said}

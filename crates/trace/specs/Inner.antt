@@ -6,7 +6,7 @@ use mathlib.Core.List.{List}
 use lib.Dec.{eqb}
 use lib.ListN.{length, take}
 use Rattle.card.specs.Record.{Masters, masters}
-use Rattle.card.specs.Inner.{Fits}
+use Rattle.card.specs.Words.{Fits}
 use Rattle.lines.specs.Lines.{octetOf}
 use Rattle.trace.specs.declared.Words.{Words}
 use Rattle.trace.specs.declared.Fed.{Fed}

@@ -10,7 +10,7 @@ ghost use Prim.Native.Nat.{_+_, _≤_};
 ghost use lib.ListN.{length};
 ghost use lib.Seq.{paste};
 ghost use Rattle.card.specs.Record.{masters};
-ghost use Rattle.card.specs.Inner.{FitAll};
+ghost use Rattle.card.specs.Words.{FitAll};
 ghost use Rattle.lines.specs.Said.{longestAnswer};
 ghost use Rattle.trace.specs.Feeding.{begun, fed, completed, ended, filling, Fills};
 ghost use Rattle.trace.specs.Inner.{noWords, Holds, Ready, leftOf, Turns};

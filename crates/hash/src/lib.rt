@@ -7,7 +7,7 @@ ghost use lib.Seq.{paste};
 ghost use Rattle.octets.specs.Numbers.{le};
 ghost use Rattle.blocks.specs.Blocks.{absorbed};
 ghost use Rattle.lps.specs.Vectors.{words, bytes};
-ghost use Rattle.hash.specs.Hash.{afterBlock, advanced, step, padded as paddedTo, hash256};
+ghost use Rattle.hash.specs.Hash.{afterBlock, advanced, step, hash256};
 ghost use Rattle.hash.specs.States.{begun, fed, ended};
 ghost use Rattle.hash.specs.Ahead.{aheadOf, coreIn, closedOver, lastBlock, endedBlock};
 use octets::octet;
@@ -188,14 +188,16 @@ pub fn feed(s: State, m: &[u8]) -> State
     }
 }
 
-// The last block: the first n bytes, a one, and zeros.
-fn padded(b: [u8; 64], n: usize) -> [u8; 64]
-    requires { ⌜ n < 64 ⌝ }
-    ensures { λ r. ⌜ r ≡ paddedTo (take n b) ⌝ }
+// The last block of a message of less than a block, padded; of another, zeros.
+pub fn last_block(m: &[u8]) -> [u64; 8]
+    ensures { λ r. ⌜ r ≡ lastBlock (now (m .entry)) ⌝ }
 {
-    let mut p = put([0; 64], 0, &b, 0, n);
-    p[n] = 1;
-    p
+    if 64 <= m.len() {
+        return [0; 8];
+    }
+    let mut last = put([0; 64], 0, m, 0, m.len());
+    last[m.len()] = 1;
+    load(&last, 0)
 }
 
 // The bytes of the upper half of a vector.
@@ -228,8 +230,7 @@ pub fn end(s: State) -> [u8; 32]
     let core = s.core;
     let buffer = s.buffer;
     let at = s.fill % 64;
-    let last = padded(buffer, at);
-    let m = load(&last, 0);
+    let m = last_block(&buffer[0..at]);
     let h = core.h;
     let n = core.n;
     let cs = iteration_constants();
@@ -268,18 +269,6 @@ fn core_in(a: &[u64]) -> Core
     let n = vector(a, 8);
     let sigma = vector(a, 16);
     Core { h, n, sigma }
-}
-
-// The last block of a message of less than a block, padded; of another, zeros.
-pub fn last_block(m: &[u8]) -> [u64; 8]
-    ensures { λ r. ⌜ r ≡ lastBlock (now (m .entry)) ⌝ }
-{
-    if 64 <= m.len() {
-        return [0; 8];
-    }
-    let mut last = put([0; 64], 0, m, 0, m.len());
-    last[m.len()] = 1;
-    load(&last, 0)
 }
 
 // The hash that a last block ends after kept words, with the constants cs; 32 zeros where the words are not 128.

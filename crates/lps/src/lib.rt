@@ -1,6 +1,6 @@
 // The transformation LPS of GOST R 34.11-2012 (RFC 6986, section 7), by the words of `tables`.
 //
-// The shape is for the machine code. `word` is called at one place, so that its table stands in the code of `turn` once. The loop over the words
+// The shape is for the machine code. `word` is called at one place, so that its table stands in the code of `turn_from` once. The loop over the words
 // of the answer stays a loop: a byte is then the lowest of a register that is shifted by 8. Five words go so, and the bytes of the other three are
 // read from memory: a processor has other units for reads than for shifts.
 ghost use mathlib.Core.Path.{_≡_};

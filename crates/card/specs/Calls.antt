@@ -26,7 +26,7 @@ use Rattle.transaction.specs.declared.Transaction.{Transaction}
 use Rattle.transaction.specs.Transaction.{isOpen, none, spoilt, withPending, kindFor, justOpened, isArqc, markFor, markAfter}
 use Rattle.card.specs.declared.Card.{Card}
 use Rattle.card.specs.declared.Reply.{Reply}
-use Rattle.card.specs.Record.{sound, Kept, kept, withTransaction, withKept, withCounters, withSession, oneFailed}
+use Rattle.card.specs.Record.{sound, Kept, kept, withPin, withMark, withTransaction, withKept, withCounters, withSession, oneFailed}
 use Rattle.card.specs.Keys.{sessionKeyOf, smiKey, smcKey, counterKeyOf}
 
 pub data Call : Type 0 where
@@ -165,7 +165,7 @@ pendAll (o ∷ os) t = pendAll os (pend o t)
 -- Close: "a pending PIN or mark becomes the kept one"
 unfoldable pub settled : Transaction → Kept → Kept
 settled t k =
-    record { pin = cond (eqb (t .count) 0) (k .pin) (t .pin); count = cond (eqb (t .count) 0) (k .count) (t .count); mark = markAfter (t .mark) (k .mark) }
+    withMark (withPin k (cond (eqb (t .count) 0) (k .pin) (t .pin)) (cond (eqb (t .count) 0) (k .count) (t .count))) (markAfter (t .mark) (k .mark))
 
 -- the record after an accepted call. Issuer answer: "on a match the session counter becomes 0". Withdraw: "drops what is pending and ends the
 -- transaction". Counters: "Changes nothing."

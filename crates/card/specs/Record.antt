@@ -30,6 +30,13 @@ masters r = record { ac = r .ac; smi = r .smi; smc = r .smc }
 abbrev pub kept : Card → Kept
 kept r = record { pin = r .pin; count = r .count; mark = r .mark }
 
+-- with another PIN, and with another mark
+abbrev pub withPin : Kept → List ℕ → ℕ → Kept
+withPin k p n = record { pin = p; count = n; mark = k .mark }
+
+abbrev pub withMark : Kept → Bool → Kept
+withMark k b = record { pin = k .pin; count = k .count; mark = b }
+
 -- the record of its parts, and a record with a part set anew
 abbrev pub cardOf : Masters → Kept → ℕ → Counters → Transaction → Card
 cardOf m k atc c t =

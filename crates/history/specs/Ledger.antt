@@ -17,7 +17,7 @@ use Rattle.transaction.specs.declared.PendingMark.the-variants.{Nothing}
 use Rattle.transaction.specs.declared.Transaction.{Transaction}
 use Rattle.transaction.specs.Transaction.{isOpen}
 use Rattle.card.specs.declared.Card.{Card}
-use Rattle.card.specs.Record.{Kept, kept, withTransaction, withKept, withCounters}
+use Rattle.card.specs.Record.{Kept, kept, withPin, withMark, withTransaction, withKept, withCounters}
 use Rattle.card.specs.Calls.{Call, Open, IssuerAnswer, Script, Close, Withdraw, Counters, Answer, due, Order, newPin, newMark, orders, pendAll}
 use Rattle.history.specs.Run.{Loading, personalisedWith, Entry, did, History, frame, isOpening, isAnswer, isFailure}
 
@@ -79,8 +79,8 @@ good r (e ∷ t) = good r t ++ madeGood (page r t) e
 
 -- an order, and orders in order, on what is kept
 abbrev pub obeyed : Order → Kept → Kept
-obeyed (newPin p n) k = record { pin = p; count = n; mark = k .mark }
-obeyed (newMark x) k = record { pin = k .pin; count = k .count; mark = x }
+obeyed (newPin p n) k = withPin k p n
+obeyed (newMark x) k = withMark k x
 
 abbrev pub allObeyed : List Order → Kept → Kept
 allObeyed [] k = k

@@ -38,15 +38,16 @@ unfoldable pub restFits : Transaction → Bool
 restFits t =
     cond (isOpen (t .phase)) true (same (t .cryptogram) (replicate 8 0) && (eqb (t .count) 0 && (isUnmarked (t .mark) && not (t .spoilt))))
 
--- the transaction with its spoilt mark set
-abbrev pub spoilt : Transaction → Transaction
-spoilt t =
-    record { phase = t .phase; cryptogram = t .cryptogram; pin = t .pin; count = t .count; mark = t .mark; spoilt = true }
+-- the same opening with what is pending and the spoilt mark set anew
+abbrev pub wentOn : Transaction → List ℕ → ℕ → PendingMark → Bool → Transaction
+wentOn t p n m s = record { phase = t .phase; cryptogram = t .cryptogram; pin = p; count = n; mark = m; spoilt = s }
 
--- and with another PIN and mark pending
+-- with its spoilt mark set, and with another PIN and mark pending
+abbrev pub spoilt : Transaction → Transaction
+spoilt t = wentOn t (t .pin) (t .count) (t .mark) true
+
 abbrev pub withPending : Transaction → List ℕ → ℕ → PendingMark → Transaction
-withPending t p n m =
-    record { phase = t .phase; cryptogram = t .cryptogram; pin = p; count = n; mark = m; spoilt = t .spoilt }
+withPending t p n m = wentOn t p n m (t .spoilt)
 
 -- "Kind is AAC if the kept block mark is set, else ARQC."
 abbrev pub kindFor : Bool → Kind

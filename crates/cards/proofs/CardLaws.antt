@@ -15,7 +15,7 @@ use Rattle.octets.proofs.Parts.{part-part}
 use Rattle.rounds.specs.Rounds.{constants}
 use Rattle.answers.specs.declared.KeyAnswer.{KeyAnswer}
 use Rattle.derive.specs.Derivation.{derived, cardLabel}
-use Rattle.derive.specs.Kept.{kept, derivedKept}
+use Rattle.derive.specs.Kept.{keptWords, derivedKept}
 use Rattle.derive.specs.Answers.{derivationOver}
 use Rattle.derive.proofs.Laws.{derivation-over, kept-fits, derived-kept}
 use Rattle.answers.specs.declared.BlockAnswer.{BlockAnswer}
@@ -143,14 +143,14 @@ key-bytes cs ws seed r l h n d e f =
 
 -- the keys under the kept key are the cards' keys
 module _ (key : List ℕ) (h : length key ≡ 32) where
-  one : (c : List ℕ) → cardFits (panOf c) (sequenceOf c) ≡ true → derivedKept (kept key) cardLabel (seedOf c .bytes) ≡ cardKey key (panOf c) (sequenceOf c) .bytes
+  one : (c : List ℕ) → cardFits (panOf c) (sequenceOf c) ≡ true → derivedKept (keptWords key) cardLabel (seedOf c .bytes) ≡ cardKey key (panOf c) (sequenceOf c) .bytes
   unfolding seedOf seedAnswer cardKey cardAnswer keyFits
   one c f =
-      ap (λ (t : Bool). derivedKept (kept key) cardLabel (coded t (Y (panOf c) (sequenceOf c)) .bytes)) f
+      ap (λ (t : Bool). derivedKept (keptWords key) cardLabel (coded t (Y (panOf c) (sequenceOf c)) .bytes)) f
       ∙ derived-kept key cardLabel (Y (panOf c) (sequenceOf c)) h
       ∙ sym (simp (eq-eqb _ _ h, f))
 
-  pub keys-kept : (n : ℕ) (cs : List ℕ) → allFit n cs ≡ true → keysBy (kept key) n cs ≡ cardsKeys key n cs
+  pub keys-kept : (n : ℕ) (cs : List ℕ) → allFit n cs ≡ true → keysBy (keptWords key) n cs ≡ cardsKeys key n cs
   unfolding keysBy cardsKeys allFit
   keys-kept zero cs e = refl
   keys-kept (suc n) cs e =
@@ -184,6 +184,6 @@ module _ (key cs lent : List ℕ) where
     unfolding cardsNumber cardsAfter
     no-card f = (simp (good, f), simp (good, f))
 
-    pub all-keys : allFit (length cs / 21) cs ≡ true → (x : List ℕ) → x ≡ keysBy (kept key) (length cs / 21) cs → (0 ≡ cardsNumber key cs lent) × (x ≡ cardsAfter key cs lent)
+    pub all-keys : allFit (length cs / 21) cs ≡ true → (x : List ℕ) → x ≡ keysBy (keptWords key) (length cs / 21) cs → (0 ≡ cardsNumber key cs lent) × (x ≡ cardsAfter key cs lent)
     unfolding cardsNumber cardsAfter
     all-keys f x e = (simp (good, f), e ∙ keys-kept key h (length cs / 21) cs f ∙ sym (simp (good, f)))

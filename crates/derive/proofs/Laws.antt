@@ -11,7 +11,7 @@ use lib.Seq.{take-at, drop-at, take-all}
 use Rattle.answers.specs.Answers.{aKey, noKey}
 use Rattle.octets.proofs.Parts.{zeros, elements, elements-all}
 use Rattle.rounds.specs.Rounds.{constants}
-use Rattle.rounds.specs.Lent.{laid}
+use Rattle.rounds.specs.Lent.{laidWords}
 use Rattle.rounds.proofs.LentLaws.{laid-zeros}
 use Rattle.hash.specs.declared.State.{State}
 use Rattle.hash.specs.Hash.{hash256}
@@ -19,7 +19,7 @@ use Rattle.hash.specs.States.{begun, fed, ended}
 use Rattle.hash.specs.Ahead.{aheadOf, endedAhead, lastBlock, endedBlock}
 use Rattle.hash.proofs.Laws.{fed-fed, ended-fed}
 use Rattle.hash.proofs.AheadLaws.{length-ahead, eights-fed, ended-ahead, fed-block, length-block, ended-block}
-use Rattle.derive.specs.Kept.{kept, keptFits, derivedKept, derivedOver}
+use Rattle.derive.specs.Kept.{keptWords, keptFits, derivedKept, derivedOver}
 use Rattle.derive.proofs.PadLaws.{length-ipad, length-opad}
 use Rattle.derive.specs.Hmac.{ipad, opad, hmac}
 use Rattle.derive.specs.Derivation.{string, derived, cardLabel}
@@ -67,21 +67,21 @@ module _ (key : List ℕ) where
   unfolding started
   length-outer = length-ahead (fed begun (opad key) .core) (eights-fed (opad key))
 
-  pub length-kept : length (kept key) ≡ 256
-  unfolding kept
+  pub length-kept : length (keptWords key) ≡ 256
+  unfolding keptWords
   length-kept = length-append inner outer ∙ ap₂ (λ (x y : ℕ). x + y) length-inner length-outer
 
-  pub kept-laid : (a b x y : List ℕ) → a ≡ inner → b ≡ outer → x ≡ laid (zeros 256) 0 a → y ≡ laid x 128 b → y ≡ kept key
-  unfolding kept
+  pub kept-laid : (a b x y : List ℕ) → a ≡ inner → b ≡ outer → x ≡ laidWords (zeros 256) 0 a → y ≡ laidWords x 128 b → y ≡ keptWords key
+  unfolding keptWords
   kept-laid a b x y ea eb ex ey =
       ey
-      ∙ ap₂ (λ (v w : List ℕ). laid v 128 w) (ex ∙ ap (laid (zeros 256) 0) ea ∙ laid-zeros [] inner 0 128 256 refl length-inner (lit≤ tt)) eb
+      ∙ ap₂ (λ (v w : List ℕ). laidWords v 128 w) (ex ∙ ap (laidWords (zeros 256) 0) ea ∙ laid-zeros [] inner 0 128 256 refl length-inner (lit≤ tt)) eb
       ∙ laid-zeros inner outer 128 128 128 length-inner length-outer (lit≤ tt)
       ∙ append-nil (inner ++ outer)
 
   -- it gives what the key gives
-  pub derived-kept : (label seed : List ℕ) → length key ≡ 32 → derivedKept (kept key) label seed ≡ derived key label seed
-  unfolding derivedKept kept started derived hmac
+  pub derived-kept : (label seed : List ℕ) → length key ≡ 32 → derivedKept (keptWords key) label seed ≡ derived key label seed
+  unfolding derivedKept keptWords started derived hmac
   derived-kept label seed e =
       let i : State = fed begun (ipad key) in
       let o : State = fed begun (opad key) in
@@ -124,7 +124,7 @@ module _ (key label seed : List ℕ) where
   derivation-maced = refl
 
   -- and under the kept key it is the same
-  pub derivation-kept : length key ≡ 32 → derivationKept (kept key) label seed ≡ derivation key label seed
+  pub derivation-kept : length key ≡ 32 → derivationKept (keptWords key) label seed ≡ derivation key label seed
   unfolding derivationKept keptFits
   derivation-kept h = simp (eq-eqb _ _ (length-kept key)) (ap aKey (derived-kept key label seed h) ∙ fits h)
 

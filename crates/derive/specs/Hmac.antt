@@ -7,14 +7,14 @@ use lib.ListN.{length, replicate}
 use Rattle.hash.specs.Hash.{hash256}
 
 -- the key with zeros up to a block, each byte xored with p (for a key of at most a block; ours are 32 bytes)
-unfoldable pub padded : ℕ → List ℕ → List ℕ
-padded p key = map (λ b. bitXor b p) (key ++ replicate (64 - length key) 0)
+unfoldable pub keyPad : ℕ → List ℕ → List ℕ
+keyPad p key = map (λ b. bitXor b p) (key ++ replicate (64 - length key) 0)
 
 unfoldable pub ipad : List ℕ → List ℕ
-ipad key = padded 0x36 key
+ipad key = keyPad 0x36 key
 
 unfoldable pub opad : List ℕ → List ℕ
-opad key = padded 0x5c key
+opad key = keyPad 0x5c key
 
 unfoldable pub hmac : List ℕ → List ℕ → List ℕ
 hmac key m = hash256 (opad key ++ hash256 (ipad key ++ m))

@@ -9,12 +9,14 @@ use Rattle.derive.specs.Derivation.{string}
 use Rattle.derive.specs.Started.{started}
 
 -- the words of the inner hash, and those of the outer
-unfoldable pub kept : List ℕ → List ℕ
-kept key = aheadOf (started key .inner .core) ++ aheadOf (started key .outer .core)
+unfoldable pub keptWords : List ℕ → List ℕ
+keptWords key = aheadOf (started key .inner .core) ++ aheadOf (started key .outer .core)
 
+-- a kept key is 256 words
 unfoldable pub keptFits : List ℕ → Bool
 keptFits ws = eqb (length ws) 256
 
+-- the outer hash of the inner hash of the string
 unfoldable pub derivedKept : List ℕ → List ℕ → List ℕ → List ℕ
 derivedKept ws label seed = endedAhead (drop 128 ws) (endedAhead (take 128 ws) (string label seed))
 

@@ -1,10 +1,10 @@
 // HMAC with GOST R 34.11-2012 (RFC 7836), and the one derivation of keys on it.
 ghost use mathlib.Core.Path.{_≡_};
 ghost use lib.ListN.{length};
-ghost use Rattle.derive.specs.Hmac.{padded};
+ghost use Rattle.derive.specs.Hmac.{keyPad};
 ghost use Rattle.derive.specs.Derivation.{string as stringOf, cardLabel};
 ghost use Rattle.derive.specs.Started.{started, hmacWith};
-ghost use Rattle.derive.specs.Kept.{kept};
+ghost use Rattle.derive.specs.Kept.{keptWords};
 ghost use Rattle.derive.specs.Answers.{maced, derivation as derivationOf, cardDerivation, derivationKept, derivationOver, keyOf};
 pub use answers::KeyAnswer;
 use answers::Refusal;
@@ -45,7 +45,7 @@ pub fn key_of(key: &[u8]) -> [u8; 32]
 
 // The key with zeros up to 64 bytes, each byte xored with p.
 fn pad(p: u8, key: [u8; 32]) -> [u8; 64]
-    ensures { λ r. ⌜ r ≡ padded p key ⌝ }
+    ensures { λ r. ⌜ r ≡ keyPad p key ⌝ }
 {
     let mut out = [p; 64];
     let mut i = 0;
@@ -149,7 +149,7 @@ pub fn derive(key: &[u8], seed: &[u8]) -> KeyAnswer
 
 // A key, kept for many seeds: its first blocks and the round keys after them are paid for once.
 pub fn keep(key: [u8; 32]) -> [u64; KEPT_WORDS]
-    ensures { λ r. ⌜ r ≡ kept key ⌝ }
+    ensures { λ r. ⌜ r ≡ keptWords key ⌝ }
 {
     let s = start(key);
     let inner = s.inner;

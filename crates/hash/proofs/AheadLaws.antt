@@ -14,13 +14,13 @@ use Rattle.blocks.proofs.Laws.{absorbed-end, tail-end}
 use Rattle.lps.specs.Vectors.{words}
 use Rattle.rounds.specs.Sums.{vec}
 use Rattle.rounds.specs.Rounds.{constants}
-use Rattle.rounds.specs.Lent.{vectorAt, laid}
+use Rattle.rounds.specs.Lent.{vectorAt, laidWords}
 use Rattle.rounds.specs.Keys.{keysOf, gBy, gWith}
 use Rattle.rounds.proofs.SumLaws.{length-vec, length-sum}
 use Rattle.rounds.proofs.LentLaws.{vector-in, laid-zeros}
 use Rattle.rounds.proofs.KeyLaws.{length-keys, g-by, with-all}
 use Rattle.hash.specs.declared.Core.{Core}
-use Rattle.hash.specs.Hash.{start, step, afterBlock, advanced, padded, closed, finished}
+use Rattle.hash.specs.Hash.{start, blockStep, afterBlock, advanced, padded, closed, finished}
 use Rattle.hash.specs.States.{filled, stateOf, held, begun, fed, ended}
 use Rattle.hash.specs.Ahead.{aheadOf, coreIn, advancedBy, endedAhead, closedOver, lastBlock, endedBlock}
 use Rattle.hash.proofs.Laws.{held-stateOf, core-stateOf, length-g, length-closed-over, closed-over}
@@ -114,18 +114,18 @@ module _ (c : Core) (e : Eights c) where
       ap₂ (λ (d : Core) (x : List ℕ). afterBlock d x n m) core-in h
 
   -- as the code writes them
-  pub ahead-laid : (ks w x y z : List ℕ) → ks ≡ keysOf (c .n) (c .h) → w ≡ laid (zeros 128) 0 (c .h) → x ≡ laid w 8 (c .n) → y ≡ laid x 16 (c .sigma)
-      → z ≡ laid y 24 ks → z ≡ aheadOf c
+  pub ahead-laid : (ks w x y z : List ℕ) → ks ≡ keysOf (c .n) (c .h) → w ≡ laidWords (zeros 128) 0 (c .h) → x ≡ laidWords w 8 (c .n) → y ≡ laidWords x 16 (c .sigma)
+      → z ≡ laidWords y 24 ks → z ≡ aheadOf c
   unfolding aheadOf
   ahead-laid ks w x y z k ew ex ey ez =
       let r : List ℕ = keysOf (c .n) (c .h) in
       let f : length (c .h ++ c .n ++ c .sigma) ≡ 24 = length-append (c .h ++ c .n) (c .sigma) ∙ ap₂ (λ (i j : ℕ). i + j) front (e .2) in
       let one : w ≡ c .h ++ zeros 120 = ew ∙ laid-zeros [] (c .h) 0 8 128 refl (e .0) (lit≤ tt) in
-      let two : x ≡ c .h ++ c .n ++ zeros 112 = ex ∙ ap (λ (b : List ℕ). laid b 8 (c .n)) one ∙ laid-zeros (c .h) (c .n) 8 8 120 (e .0) (e .1) (lit≤ tt) in
+      let two : x ≡ c .h ++ c .n ++ zeros 112 = ex ∙ ap (λ (b : List ℕ). laidWords b 8 (c .n)) one ∙ laid-zeros (c .h) (c .n) 8 8 120 (e .0) (e .1) (lit≤ tt) in
       let three : y ≡ c .h ++ c .n ++ c .sigma ++ zeros 104 =
-      ey ∙ ap (λ (b : List ℕ). laid b 16 (c .sigma)) two ∙ laid-zeros (c .h ++ c .n) (c .sigma) 16 8 112 front (e .2) (lit≤ tt) in
+      ey ∙ ap (λ (b : List ℕ). laidWords b 16 (c .sigma)) two ∙ laid-zeros (c .h ++ c .n) (c .sigma) 16 8 112 front (e .2) (lit≤ tt) in
       ez
-      ∙ ap₂ (λ (b v : List ℕ). laid b 24 v) three k
+      ∙ ap₂ (λ (b v : List ℕ). laidWords b 24 v) three k
       ∙ laid-zeros (c .h ++ c .n ++ c .sigma) r 24 104 104 f (length-keys (c .n) (c .h)) (lit≤ tt)
       ∙ append-nil (c .h ++ c .n ++ c .sigma ++ r)
       ∙ append-assoc (c .h ++ c .n) (c .sigma) r
@@ -143,10 +143,10 @@ unfolding ended fed
 finished-core c m h =
     let b : List ℕ = held (stateOf c []) ++ m in
     let e : b ≡ m = ap (λ (t : List ℕ). t ++ m) (held-stateOf c [] (lit< tt)) in
-    ap₂ (λ (d : Core) (t : List ℕ). finished (stateOf (absorbed 64 step d t) (tail 64 t) .core) (held (stateOf (absorbed 64 step d t) (tail 64 t))))
+    ap₂ (λ (d : Core) (t : List ℕ). finished (stateOf (absorbed 64 blockStep d t) (tail 64 t) .core) (held (stateOf (absorbed 64 blockStep d t) (tail 64 t))))
     (core-stateOf c []) e
-    ∙ ap₂ finished (core-stateOf (absorbed 64 step c m) (tail 64 m) ∙ absorbed-end 64 (lit< tt) step c m h)
-    (ap (λ (t : List ℕ). held (stateOf (absorbed 64 step c m) t)) (tail-end 64 (lit< tt) m h) ∙ held-stateOf (absorbed 64 step c m) m h)
+    ∙ ap₂ finished (core-stateOf (absorbed 64 blockStep c m) (tail 64 m) ∙ absorbed-end 64 (lit< tt) blockStep c m h)
+    (ap (λ (t : List ℕ). held (stateOf (absorbed 64 blockStep c m) t)) (tail-end 64 (lit< tt) m h) ∙ held-stateOf (absorbed 64 blockStep c m) m h)
 
 module _ (c : Core) (e : Eights c) (m : List ℕ) where
   short : length m < 64 → endedAhead (aheadOf c) m ≡ ended (fed (stateOf c []) m)
@@ -165,14 +165,14 @@ module _ (c : Core) (e : Eights c) (m : List ℕ) where
           sym (ended-long (aheadOf c) m (length-ahead c e) (ltb-false _ _ t)) ∙ ap (λ (d : Core). ended (fed (stateOf d []) m)) (core-in c e)
 
 -- the vectors of a hash under way have eight words
-eights-step : (c : Core) (b : List ℕ) → Eights (step c b)
-unfolding step advanced afterBlock
+eights-step : (c : Core) (b : List ℕ) → Eights (blockStep c b)
+unfolding blockStep advanced afterBlock
 eights-step c b = (length-g (c .n) (c .h) (words b), length-sum (c .n) (vec 512), length-sum (c .sigma) (words b))
 
-eights-taken : (n : ℕ) (c : Core) (m : List ℕ) → Eights c → Eights (taken 64 step n c m)
+eights-taken : (n : ℕ) (c : Core) (m : List ℕ) → Eights c → Eights (taken 64 blockStep n c m)
 unfolding taken
 eights-taken zero c m e = e
-eights-taken (suc n) c m e = eights-taken n (step c (take 64 m)) (drop 64 m) (eights-step c (take 64 m))
+eights-taken (suc n) c m e = eights-taken n (blockStep c (take 64 m)) (drop 64 m) (eights-step c (take 64 m))
 
 eights-start : Eights start
 unfolding start words
@@ -187,7 +187,7 @@ pub fed-block : (b : List ℕ) → length b ≡ 64 → stateOf (fed begun b .cor
 unfolding fed begun tail
 fed-block b e =
     let t : List ℕ = held (stateOf start []) ++ b in
-    let c : Core = absorbed 64 step (stateOf start [] .core) t in
+    let c : Core = absorbed 64 blockStep (stateOf start [] .core) t in
     let n : length t ≡ 64 = ap length (ap (λ (x : List ℕ). x ++ b) (held-stateOf start [] (lit< tt))) ∙ e in
     let z : length t ≤ length t / 64 * 64 = omega arith in
     ap (λ (d : Core). stateOf d []) (core-stateOf c (tail 64 t)) ∙ ap (stateOf c) (sym (drop-of-length-le t z))

@@ -11,7 +11,7 @@ use Rattle.blocks.proofs.Laws.{absorbed-step, absorbed-end, tail-step, tail-end
 use Rattle.lps.specs.Vectors.{words}
 use Rattle.hash.specs.declared.Core.{Core}
 use Rattle.hash.specs.declared.State.{State}
-use Rattle.hash.specs.Hash.{advanced, step}
+use Rattle.hash.specs.Hash.{advanced, blockStep}
 use Rattle.hash.specs.States.{filled, stateOf, held, fed}
 use Rattle.octets.proofs.Parts.{zeros}
 use Rattle.hash.proofs.BlockLaws.{put-filled, put-empty, filled-full}
@@ -40,7 +40,7 @@ module _ (s : State) (m kept : List ℕ) (hb : length (s .buffer) ≡ 64) (ek : 
       let b : out ≡ filled (t ++ m) = e ∙ put-kept (length m) (omega arith) (omega arith) ∙ ap (λ (x : List ℕ). filled (t ++ x)) (take-length m) in
       let f : s .fill % 64 + length m ≡ length (t ++ m) = ap (λ (k : ℕ). k + length m) (sym n) ∙ sym (length-append t m) in
       (λ k. record { core = s .core; buffer = b k; fill = f k })
-      ∙ ap₂ stateOf (sym (absorbed-end 64 (lit< tt) step (s .core) (t ++ m) l)) (sym (tail-end 64 (lit< tt) (t ++ m) l))
+      ∙ ap₂ stateOf (sym (absorbed-end 64 (lit< tt) blockStep (s .core) (t ++ m) l)) (sym (tail-end 64 (lit< tt) (t ++ m) l))
 
   module _ (need left : ℕ) (hn : need ≡ 64 - s .fill % 64) (hm : need ≤ length m) (hl : left ≡ (length m - need) % 64) where
     sum : length (held s) + need ≡ 64
@@ -74,15 +74,15 @@ module _ (s : State) (m kept : List ℕ) (hb : length (s .buffer) ≡ 64) (ek : 
         ∙ take-all 64 (take 64 (held s ++ m)) (omega (arith, ap length front ∙ n))
 
     pub fed-long : (full w out : List ℕ) (c d : Core) → full ≡ paste kept (s .fill % 64) m need → w ≡ words (take 64 full)
-        → c ≡ advanced (s .core) 512 w → d ≡ absorbed 64 step c (drop need m) → out ≡ paste (zeros 64) 0 (drop (length m - left) m) left
+        → c ≡ advanced (s .core) 512 w → d ≡ absorbed 64 blockStep c (drop need m) → out ≡ paste (zeros 64) 0 (drop (length m - left) m) left
         → record { core = d; buffer = out; fill = left } ≡ fed s m
-    unfolding fed stateOf step
+    unfolding fed stateOf blockStep
     fed-long full w out c d ef ew ec ed eo =
         let r : List ℕ = drop (length m - left) m in
         let n : length r ≡ left = length-drop (length m - left) m ∙ omega arith in
         let b : out ≡ filled r = eo ∙ put-empty r left (omega arith) (omega arith) ∙ ap filled (take-all left r (omega arith)) in
-        let e : c ≡ step (s .core) (take 64 (held s ++ m)) = ec ∙ ap (advanced (s .core) 512) (ew ∙ ap words (full-block full ef)) in
-        let a : d ≡ absorbed 64 step (s .core) (held s ++ m) =
-        ed ∙ ap₂ (absorbed 64 step) e (sym back) ∙ sym (absorbed-step 64 (lit< tt) step (s .core) (held s ++ m) enough) in
+        let e : c ≡ blockStep (s .core) (take 64 (held s ++ m)) = ec ∙ ap (advanced (s .core) 512) (ew ∙ ap words (full-block full ef)) in
+        let a : d ≡ absorbed 64 blockStep (s .core) (held s ++ m) =
+        ed ∙ ap₂ (absorbed 64 blockStep) e (sym back) ∙ sym (absorbed-step 64 (lit< tt) blockStep (s .core) (held s ++ m) enough) in
         (λ k. record { core = a k; buffer = b k; fill = sym n k })
-        ∙ ap (stateOf (absorbed 64 step (s .core) (held s ++ m))) rest
+        ∙ ap (stateOf (absorbed 64 blockStep (s .core) (held s ++ m))) rest

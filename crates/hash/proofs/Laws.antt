@@ -18,7 +18,7 @@ use Rattle.hash.specs.declared.Core.{Core}
 use Rattle.hash.specs.declared.State.{State}
 use Rattle.rounds.specs.Sums.{vec}
 use Rattle.rounds.specs.Rounds.{constants, gOver, g}
-use Rattle.hash.specs.Hash.{start, step, advanced, padded, closed, finished, hash256}
+use Rattle.hash.specs.Hash.{start, blockStep, advanced, padded, closed, finished, hash256}
 use Rattle.hash.specs.Ahead.{closedOver}
 use Rattle.hash.specs.States.{filled, stateOf, held, begun, fed, ended}
 
@@ -36,20 +36,20 @@ pub fed-fed : (s : State) (x y : List ℕ) → fed (fed s x) y ≡ fed s (x ++ y
 unfolding fed
 fed-fed s x y =
     let a : List ℕ = held s ++ x in
-    let c : Core = absorbed 64 step (s .core) a in
-    let j = joined 64 (lit< tt) step (s .core) a y in
-    ap₂ (λ (d : Core) (t : List ℕ). stateOf (absorbed 64 step d (t ++ y)) (tail 64 (t ++ y)))
+    let c : Core = absorbed 64 blockStep (s .core) a in
+    let j = joined 64 (lit< tt) blockStep (s .core) a y in
+    ap₂ (λ (d : Core) (t : List ℕ). stateOf (absorbed 64 blockStep d (t ++ y)) (tail 64 (t ++ y)))
     (core-stateOf c (tail 64 a)) (held-stateOf c (tail 64 a) (tail-short 64 (lit< tt) a))
     ∙ ap₂ stateOf (j .state) (j .rest)
-    ∙ ap (λ (t : List ℕ). stateOf (absorbed 64 step (s .core) t) (tail 64 t)) (append-assoc (held s) x y)
+    ∙ ap (λ (t : List ℕ). stateOf (absorbed 64 blockStep (s .core) t) (tail 64 t)) (append-assoc (held s) x y)
 
 pub ended-fed : (m : List ℕ) → ended (fed begun m) ≡ hash256 m
 unfolding ended fed begun hash256
 ended-fed m =
     let b : List ℕ = held (stateOf start []) ++ m in
-    ap₂ finished (core-stateOf (absorbed 64 step (stateOf start [] .core) b) (tail 64 b))
-    (held-stateOf (absorbed 64 step (stateOf start [] .core) b) (tail 64 b) (tail-short 64 (lit< tt) b))
-    ∙ ap₂ (λ (c : Core) (t : List ℕ). finished (absorbed 64 step c (t ++ m)) (tail 64 (t ++ m)))
+    ap₂ finished (core-stateOf (absorbed 64 blockStep (stateOf start [] .core) b) (tail 64 b))
+    (held-stateOf (absorbed 64 blockStep (stateOf start [] .core) b) (tail 64 b) (tail-short 64 (lit< tt) b))
+    ∙ ap₂ (λ (c : Core) (t : List ℕ). finished (absorbed 64 blockStep c (t ++ m)) (tail 64 (t ++ m)))
     (core-stateOf start []) (held-stateOf start [] (lit< tt))
 
 pub length-over : (cs : List (List ℕ)) (n h m : List ℕ) → length (gOver cs n h m) ≡ 8
@@ -92,8 +92,8 @@ octets-finished c t = octets-closed (advanced c (8 * length t) (words (padded t)
 
 pub length-hash256 : (m : List ℕ) → length (hash256 m) ≡ 32
 unfolding hash256
-length-hash256 m = length-finished (absorbed 64 step start m) (tail 64 m)
+length-hash256 m = length-finished (absorbed 64 blockStep start m) (tail 64 m)
 
 pub octets-hash256 : (m : List ℕ) → Octets (hash256 m)
 unfolding hash256
-octets-hash256 m = octets-finished (absorbed 64 step start m) (tail 64 m)
+octets-hash256 m = octets-finished (absorbed 64 blockStep start m) (tail 64 m)

@@ -22,8 +22,8 @@ unfoldable pub advanced : Core → ℕ → List ℕ → Core
 advanced c n m = afterBlock c (g (c .n) (c .h) m) n m
 
 -- Stage 2: a whole block
-unfoldable pub step : Core → List ℕ → Core
-step c b = advanced c 512 (words b)
+unfoldable pub blockStep : Core → List ℕ → Core
+blockStep c b = advanced c 512 (words b)
 
 -- Stage 3: the rest t, fewer than 64 bytes, as the block 0 .. 0 1 || t
 unfoldable pub padded : List ℕ → List ℕ
@@ -39,4 +39,4 @@ finished c t = closed (advanced c (8 * length t) (words (padded t)))
 
 -- Stages 1, 2 and 3
 unfoldable pub hash256 : List ℕ → List ℕ
-hash256 m = finished (absorbed 64 step start m) (tail 64 m)
+hash256 m = finished (absorbed 64 blockStep start m) (tail 64 m)

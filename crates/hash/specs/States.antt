@@ -3,7 +3,7 @@ use mathlib.Core.List.{List, [], _++_}
 use Prim.Native.Nat.{ℕ, _-_, _%_}
 use lib.ListN.{length, take, replicate}
 use Rattle.blocks.specs.Blocks.{absorbed, tail}
-use Rattle.hash.specs.Hash.{start, step, finished}
+use Rattle.hash.specs.Hash.{start, blockStep, finished}
 use Rattle.hash.specs.declared.Core.{Core}
 use Rattle.hash.specs.declared.State.{State}
 
@@ -25,7 +25,7 @@ begun = stateOf start []
 
 -- the bytes held and m: the whole blocks absorbed, and the rest held
 unfoldable pub fed : State → List ℕ → State
-fed s m = stateOf (absorbed 64 step (s .core) (held s ++ m)) (tail 64 (held s ++ m))
+fed s m = stateOf (absorbed 64 blockStep (s .core) (held s ++ m)) (tail 64 (held s ++ m))
 
 -- the hash of all the bytes so far
 unfoldable pub ended : State → List ℕ

@@ -7,7 +7,7 @@ ghost use lib.Seq.{paste};
 ghost use Rattle.octets.specs.Numbers.{le};
 ghost use Rattle.blocks.specs.Blocks.{absorbed};
 ghost use Rattle.lps.specs.Vectors.{words, bytes};
-ghost use Rattle.hash.specs.Hash.{afterBlock, advanced, step, hash256};
+ghost use Rattle.hash.specs.Hash.{afterBlock, advanced, blockStep, hash256};
 ghost use Rattle.hash.specs.States.{begun, fed, ended};
 ghost use Rattle.hash.specs.Ahead.{aheadOf, coreIn, closedOver, lastBlock, endedBlock};
 use octets::octet;
@@ -111,7 +111,7 @@ fn advance(c: Core, bits: u64, m: [u64; 8]) -> Core
 // The whole blocks of m from a place on. The constants are made once for them.
 fn absorb(c: Core, m: &[u8], from: usize) -> Core
     requires { ⌜ from ≤ length (now m) ⌝ }
-    ensures { λ r. ⌜ r ≡ absorbed 64 step c (drop from (now (m .entry))) ⌝ }
+    ensures { λ r. ⌜ r ≡ absorbed 64 blockStep c (drop from (now (m .entry))) ⌝ }
 {
     if m.len() - from < 64 {
         return c;
@@ -200,7 +200,7 @@ pub fn last_block(m: &[u8]) -> [u64; 8]
     load(&last, 0)
 }
 
-// The bytes of the upper half of a vector.
+// The bytes of four words.
 fn digest(v: [u64; 4]) -> [u8; 32]
     ensures { λ r. ⌜ r ≡ bytes v ⌝ }
 {

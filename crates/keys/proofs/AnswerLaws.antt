@@ -15,7 +15,7 @@ use Rattle.cipher.proofs.AnswerLaws.{fits as block-fits}
 use Rattle.hash.specs.Hash.{hash256}
 use Rattle.answers.specs.declared.KeyAnswer.{KeyAnswer}
 use Rattle.derive.specs.Derivation.{cardLabel}
-use Rattle.derive.specs.Kept.{kept}
+use Rattle.derive.specs.Kept.{keptWords}
 use Rattle.derive.specs.Answers.{seedFits, cardDerivation, derivationKept}
 use Rattle.derive.proofs.Laws.{fits, card-seed, derivation-kept}
 use Rattle.keys.specs.CardNumber.{cardFits, Y}
@@ -46,11 +46,11 @@ module _ (pan : List ℕ) (q : ℕ) (t : Bool) (e : t ≡ cardFits pan q) where
 
 -- a session key under the kept master key is the session key
 module _ (key : List ℕ) where
-  pub session-kept : (atc : ℕ) → length key ≡ 32 → sessionKeyKept (kept key) atc ≡ sessionKey key atc
+  pub session-kept : (atc : ℕ) → length key ≡ 32 → sessionKeyKept (keptWords key) atc ≡ sessionKey key atc
   unfolding sessionKeyKept sessionKey sessionSeed beOctets leOctets
   session-kept atc h = derivation-kept key cardLabel (sessionSeed atc) h ∙ card-seed key (sessionSeed atc) refl
 
-  pub script-kept : (cryptogram : List ℕ) → length key ≡ 32 → scriptKeyKept (kept key) cryptogram ≡ scriptKey key cryptogram
+  pub script-kept : (cryptogram : List ℕ) → length key ≡ 32 → scriptKeyKept (keptWords key) cryptogram ≡ scriptKey key cryptogram
   unfolding scriptKeyKept scriptKey cardDerivation
   script-kept cryptogram h = ap (λ (x : KeyAnswer). cond (seedFits cryptogram) x (noKey 1)) (derivation-kept key cardLabel cryptogram h)
 

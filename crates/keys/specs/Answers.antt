@@ -40,7 +40,7 @@ sessionKey key atc = cardDerivation key (sessionSeed atc)
 unfoldable pub scriptKey : List ℕ → List ℕ → KeyAnswer
 scriptKey key cryptogram = cardDerivation key cryptogram
 
--- both under the words of a kept master key; 1 where they are not 256
+-- both under the words of a kept master key; 1 where they are not 256, or a cryptogram is not 8 bytes
 unfoldable pub sessionKeyKept : List ℕ → ℕ → KeyAnswer
 sessionKeyKept ws atc = derivationKept ws cardLabel (sessionSeed atc)
 

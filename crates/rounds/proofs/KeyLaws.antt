@@ -16,7 +16,7 @@ use Rattle.lps.proofs.Each.{each-equal}
 use Rattle.lps.proofs.Words.{length-LPS}
 use Rattle.rounds.specs.Constants.{C}
 use Rattle.rounds.specs.Rounds.{constants, E, gOver, g}
-use Rattle.rounds.specs.Keys.{schedule, keysOf, through, gBy, gWith, isFirst, gFirst, gBlock}
+use Rattle.rounds.specs.Keys.{schedule, keysOf, throughKeys, gBy, gWith, isFirst, gFirst, gBlock}
 
 count : length constants ≡ 12
 unfolding constants C
@@ -33,8 +33,8 @@ X-front k s m e = each-equal (λ i h. ap (λ (x : ℕ). bitXor x (getD m i 0)) (
 
 -- E by the schedule of its key
 rounds-through : (cs : List (List ℕ)) (k m : List ℕ) → length k ≡ 8
-    → E cs k m ≡ X (drop (8 * length cs) (schedule cs k)) (through (length cs) (schedule cs k) m)
-unfolding E through schedule
+    → E cs k m ≡ X (drop (8 * length cs) (schedule cs k)) (throughKeys (length cs) (schedule cs k) m)
+unfolding E throughKeys schedule
 rounds-through [] k m e = refl
 rounds-through (c ∷ cs) k m e =
     let next : List ℕ = LPS (X k c) in
@@ -42,16 +42,16 @@ rounds-through (c ∷ cs) k m e =
     let d : 8 + 8 * length cs ≡ 8 * suc (length cs) = omega arith in
     rounds-through cs next (LPS (X k m)) (length-LPS (X k c))
     ∙ sym
-    (ap₂ (λ (x y : List ℕ). X x (through (length cs) y (LPS (X (k ++ s) m))))
+    (ap₂ (λ (x y : List ℕ). X x (throughKeys (length cs) y (LPS (X (k ++ s) m))))
     (ap (λ (n : ℕ). drop n (k ++ s)) (sym d) ∙ sym (drop-drop (8 * length cs) 8 (k ++ s)) ∙ ap (drop (8 * length cs)) (drop-at k s 8 e))
     (drop-at k s 8 e)
-    ∙ ap (λ (x : List ℕ). X (drop (8 * length cs) s) (through (length cs) s (LPS x))) (X-front k s m e))
+    ∙ ap (λ (x : List ℕ). X (drop (8 * length cs) s) (throughKeys (length cs) s (LPS x))) (X-front k s m e))
 
 pub g-by : (n h m : List ℕ) → gBy (keysOf n h) h m ≡ g n h m
 unfolding gBy keysOf g gOver
 g-by n h m =
     ap (λ (x : List ℕ). X (X x h) m)
-    (ap (λ (i : ℕ). X (drop (8 * i) (schedule constants (LPS (X h n)))) (through i (schedule constants (LPS (X h n))) m)) (sym count)
+    (ap (λ (i : ℕ). X (drop (8 * i) (schedule constants (LPS (X h n)))) (throughKeys i (schedule constants (LPS (X h n))) m)) (sym count)
     ∙ sym (rounds-through constants (LPS (X h n)) m (length-LPS (X h n))))
 
 -- the first block
@@ -105,20 +105,20 @@ module _ (b v : List ℕ) (p : ℕ) (n : length b ≡ 104) (e : length v ≡ 8) 
 
 -- i rounds by the keys ks are done
 module _ (ks m : List ℕ) where
-  pub through-turn : (i : ℕ) (k s : List ℕ) → i < 12 → X k s ≡ X (drop (8 * i) ks) s → through (12 - i) (drop (8 * i) ks) s ≡ through 12 ks m
-      → through (12 - (i + 1)) (drop (8 * (i + 1)) ks) (LPS (X s k)) ≡ through 12 ks m
-  unfolding through
+  pub through-turn : (i : ℕ) (k s : List ℕ) → i < 12 → X k s ≡ X (drop (8 * i) ks) s → throughKeys (12 - i) (drop (8 * i) ks) s ≡ throughKeys 12 ks m
+      → throughKeys (12 - (i + 1)) (drop (8 * (i + 1)) ks) (LPS (X s k)) ≡ throughKeys 12 ks m
+  unfolding throughKeys
   through-turn i k s h e d =
       let r : 12 - i ≡ suc (12 - (i + 1)) = omega arith in
       let f : 8 * i + 8 ≡ 8 * (i + 1) = omega arith in
       let q : drop (8 * (i + 1)) ks ≡ drop 8 (drop (8 * i) ks) = ap (λ (n : ℕ). drop n ks) (sym f) ∙ sym (drop-drop 8 (8 * i) ks) in
-      ap₂ (through (12 - (i + 1))) q (ap LPS (X-comm s k ∙ e))
-      ∙ ap (λ (n : ℕ). through n (drop (8 * i) ks) s) (sym r)
+      ap₂ (throughKeys (12 - (i + 1))) q (ap LPS (X-comm s k ∙ e))
+      ∙ ap (λ (n : ℕ). throughKeys n (drop (8 * i) ks) s) (sym r)
       ∙ d
 
-  pub through-end : (i : ℕ) (s : List ℕ) → 12 ≤ i → i ≤ 12 → through (12 - i) (drop (8 * i) ks) s ≡ through 12 ks m → s ≡ through 12 ks m
-  unfolding through
-  through-end i s h l d = let e : 0 ≡ 12 - i = omega arith in ap (λ (n : ℕ). through n (drop (8 * i) ks) s) e ∙ d
+  pub through-end : (i : ℕ) (s : List ℕ) → 12 ≤ i → i ≤ 12 → throughKeys (12 - i) (drop (8 * i) ks) s ≡ throughKeys 12 ks m → s ≡ throughKeys 12 ks m
+  unfolding throughKeys
+  through-end i s h l d = let e : 0 ≡ 12 - i = omega arith in ap (λ (n : ℕ). throughKeys n (drop (8 * i) ks) s) e ∙ d
 
 -- i rounds are done, of the state and of the keys
 module _ (cs : List (List ℕ)) where

@@ -10,7 +10,7 @@ use lib.Seq.{paste, getD-take, take-at, drop-at, take-all, drop-append-add}
 use Rattle.octets.proofs.Parts.{zeros, drop-zeros, elements, elements-part}
 use Rattle.lps.specs.Vectors.{X}
 use Rattle.lps.proofs.Each.{each-equal}
-use Rattle.rounds.specs.Lent.{vectorAt, laid}
+use Rattle.rounds.specs.Lent.{vectorAt, laidWords}
 
 module _ (b : List ℕ) (p : ℕ) where
   pub vector-at : p + 8 ≤ length b → vectorAt b p ≡ take 8 (drop p b)
@@ -32,18 +32,18 @@ module _ (b : List ℕ) (p : ℕ) where
       ∙ each-equal (λ i l. ap (λ (x : ℕ). bitXor x (getD m i 0)) (getD-take 8 (drop p b) i 0 l))
 
   module _ (w : List ℕ) where
-    pub laid-in : (n : ℕ) → length w ≡ n → p + n ≤ length b → laid b p w ≡ paste b p w n
-    unfolding laid
+    pub laid-in : (n : ℕ) → length w ≡ n → p + n ≤ length b → laidWords b p w ≡ paste b p w n
+    unfolding laidWords
     laid-in n e h =
         let l : p + length w ≤ length b = omega arith in
         simp (le-leb _ _ l) (ap (paste b p w) e)
 
-    pub laid-not : length b < p + length w → b ≡ laid b p w
-    unfolding laid
+    pub laid-not : length b < p + length w → b ≡ laidWords b p w
+    unfolding laidWords
     laid-not h = simp (lt-leb _ _ h)
 
 -- words put one after the other over zeros
-pub laid-zeros : (x w : List ℕ) (p n k : ℕ) → length x ≡ p → length w ≡ n → n ≤ k → laid (x ++ zeros k) p w ≡ x ++ w ++ zeros (k - n)
+pub laid-zeros : (x w : List ℕ) (p n k : ℕ) → length x ≡ p → length w ≡ n → n ≤ k → laidWords (x ++ zeros k) p w ≡ x ++ w ++ zeros (k - n)
 laid-zeros x w p n k e f h =
     let z : length (x ++ zeros k) ≡ p + k = length-append x (zeros k) ∙ ap₂ (λ (i j : ℕ). i + j) e (length-replicate k 0) in
     laid-in (x ++ zeros k) p w n f (omega arith)

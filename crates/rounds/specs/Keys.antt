@@ -18,13 +18,13 @@ unfoldable pub keysOf : List ℕ → List ℕ → List ℕ
 keysOf n h = schedule constants (LPS (X h n))
 
 -- n rounds from s on, each by the next key of ks; X takes the first eight words
-unfoldable pub through : ℕ → List ℕ → List ℕ → List ℕ
-through zero ks s = s
-through (suc n) ks s = through n (drop 8 ks) (LPS (X ks s))
+unfoldable pub throughKeys : ℕ → List ℕ → List ℕ → List ℕ
+throughKeys zero ks s = s
+throughKeys (suc n) ks s = throughKeys n (drop 8 ks) (LPS (X ks s))
 
 -- g_N(h, m) by its round keys
 unfoldable pub gBy : List ℕ → List ℕ → List ℕ → List ℕ
-gBy ks h m = X (X (X (drop 96 ks) (through 12 ks m)) h) m
+gBy ks h m = X (X (X (drop 96 ks) (throughKeys 12 ks m)) h) m
 
 -- the same for any words: zeros where they are not 104
 unfoldable pub gWith : List ℕ → List ℕ → List ℕ → List ℕ

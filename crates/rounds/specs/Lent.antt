@@ -11,5 +11,5 @@ unfoldable pub vectorAt : List ℕ → ℕ → List ℕ
 vectorAt b p = cond (leb (p + 8) (length b)) (take 8 (drop p b)) (replicate 8 0)
 
 -- b with the words w from word p on; where they do not fit, b as it was
-unfoldable pub laid : List ℕ → ℕ → List ℕ → List ℕ
-laid b p w = cond (leb (p + length w) (length b)) (paste b p w (length w)) b
+unfoldable pub laidWords : List ℕ → ℕ → List ℕ → List ℕ
+laidWords b p w = cond (leb (p + length w) (length b)) (paste b p w (length w)) b

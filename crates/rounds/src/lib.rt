@@ -6,7 +6,7 @@ ghost use Rattle.octets.specs.Same.{same};
 ghost use Rattle.lps.specs.Vectors.{X};
 ghost use Rattle.rounds.specs.Sums.{_⊞_};
 ghost use Rattle.rounds.specs.Rounds.{constants, gOver, g};
-ghost use Rattle.rounds.specs.Lent.{vectorAt, laid};
+ghost use Rattle.rounds.specs.Lent.{vectorAt, laidWords};
 ghost use Rattle.rounds.specs.Keys.{keysOf, gWith, isFirst, gFirst, gBlock};
 
 mod constants;
@@ -56,7 +56,7 @@ pub fn vector(b: &[u64], p: usize) -> [u64; 8]
 
 // Words written from word p on; where they do not fit, none is.
 pub fn lay(b: &mut [u64], p: usize, w: &[u64])
-    ensures { λ _. ⌜ now (b .exit) ≡ laid (now (b .entry)) p (now (w .entry)) ⌝ }
+    ensures { λ _. ⌜ now (b .exit) ≡ laidWords (now (b .entry)) p (now (w .entry)) ⌝ }
 {
     if b.len() < w.len() {
         return;

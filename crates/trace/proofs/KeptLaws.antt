@@ -9,7 +9,7 @@ use lib.Dec.{eqb, leb}
 use borrow.Author.Tests.{eqb-false}
 use lib.ListN.{length, getD, take, set}
 use lib.Seq.{take-all, take-suc, take-suc-set}
-use Rattle.derive.specs.Kept.{kept}
+use Rattle.derive.specs.Kept.{keptWords}
 use Rattle.derive.proofs.Laws.{length-kept}
 use Rattle.card.specs.Record.{Masters, masters}
 use Rattle.card.specs.Words.{FitAll}
@@ -38,7 +38,7 @@ words-end ws made i l m n e = sym (take-all i ws (omega arith)) ∙ e ∙ take-a
 pub kept-none : (ws key : List ℕ) → length ws ≡ 256 → Holds ws 0 key
 kept-none ws key l = record { size = l; most = omega arith; fits = λ e. absurd (omega arith) }
 
-pub kept-all : (ws key : List ℕ) → ws ≡ kept key → Holds ws 256 key
+pub kept-all : (ws key : List ℕ) → ws ≡ keptWords key → Holds ws 256 key
 kept-all ws key e =
     let l : length ws ≡ 256 = ap length e ∙ length-kept key in
     record { size = l; most = omega arith; fits = λ z. take-all 256 ws (omega arith) ∙ e }

@@ -5,7 +5,7 @@ use native.Mathlib.Omega.{arith}
 use borrow.Author.Needs.{needs}
 use borrow.Author.Tests.{not-true, not-false}
 use lib.ListN.{length}
-use Rattle.derive.specs.Kept.{kept}
+use Rattle.derive.specs.Kept.{keptWords}
 use Rattle.derive.proofs.Laws.{key-of-fits}
 use Rattle.cards.specs.Inner.{keysBy}
 use Rattle.cards.proofs.CardLaws.{no-key, no-cards, no-place, no-card, all-keys}
@@ -48,7 +48,7 @@ returns-6 c =
     (sym (end .before .all-fit .ensures) ∙ not-false _ (end .if5 .left)) _
     (c .before .before .put-keys .ensures
     ∙ ap (λ (ws : List ℕ). keysBy ws (length cards / 21) cards)
-    (c .before .before .before .before .before .keep .ensures ∙ ap kept (k .ensures ∙ key-of-fits key (first .if1 .left))))
+    (c .before .before .before .before .before .keep .ensures ∙ ap keptWords (k .ensures ∙ key-of-fits key (first .if1 .left))))
 
 pub card-keys-spec : {M : Type 1} → statement M
 card-keys-spec =

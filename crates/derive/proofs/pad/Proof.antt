@@ -6,19 +6,19 @@ use borrow.Author.Needs.{needs}
 use lib.Bits.{bitXor}
 use lib.ListN.{length, set, getD, replicate}
 use lib.Seq.{paste, paste-zero}
-use Rattle.derive.specs.Hmac.{padded}
+use Rattle.derive.specs.Hmac.{keyPad}
 use Rattle.derive.proofs.PadLaws.{pad-turn, pad-end}
 use Rattle.derive.proofs.pad.Statement.{statement}
 use Rattle.derive.proofs.pad.Tie as tie
 
 abbrev Inv-loop : tie.InvT-loop
-Inv-loop p key out₀ i₀ out i = (i ≤ 32) × (out ≡ paste (replicate 64 p) 0 (padded p key) i)
+Inv-loop p key out₀ i₀ out i = (i ≤ 32) × (out ≡ paste (replicate 64 p) 0 (keyPad p key) i)
 
 abbrev μ-loop : tie.MeasureT-loop
 μ-loop p key out₀ i₀ out i = 32 - i
 
 loop-holds : tie.Need-loop-holds Inv-loop μ-loop
-loop-holds c = (omega arith, paste-zero _ 0 (padded (c .args .p) (c .args .t2)))
+loop-holds c = (omega arith, paste-zero _ 0 (keyPad (c .args .p) (c .args .t2)))
 
 loop-again : tie.Need-loop-again Inv-loop μ-loop
 loop-again c =
@@ -33,7 +33,7 @@ returns c =
     let a = c .before .before .args in
     let h : length (a .t2) ≡ 32 = search needs in
     let e : l .i ≡ 32 = omega arith in
-    l .inv .1 ∙ ap (paste (replicate 64 (a .p)) 0 (padded (a .p) (a .t2))) e ∙ pad-end (a .p) (a .t2) h
+    l .inv .1 ∙ ap (paste (replicate 64 (a .p)) 0 (keyPad (a .p) (a .t2))) e ∙ pad-end (a .p) (a .t2) h
 
 pub pad-spec : {M : Type 1} → statement M
 pad-spec =

@@ -1,7 +1,7 @@
 use mathlib.Core.Path.{_≡_, ap₂, _∙_}
 use Rattle.hash.specs.States.{begun, fed}
 use Rattle.derive.specs.Started.{started}
-use Rattle.derive.specs.Hmac.{padded, ipad, opad}
+use Rattle.derive.specs.Hmac.{keyPad, ipad, opad}
 use borrow.Author.Needs.{needs}
 use Rattle.derive.proofs.start.Statement.{statement}
 use Rattle.derive.proofs.start.Tie as tie
@@ -11,9 +11,9 @@ unfolding started ipad opad
 returns c =
     let key = c .before .before .before .before .before .before .before .before .args .key in
     let first = c .before .before .before .before in
-    let inner : first .feed .result ≡ fed begun (padded 0x36 key) =
+    let inner : first .feed .result ≡ fed begun (keyPad 0x36 key) =
     first .feed .ensures ∙ ap₂ fed (first .before .before .before .begin .ensures) (first .before .before .pad .ensures) in
-    let outer : c .feed2 .result ≡ fed begun (padded 0x5c key) = c .feed2 .ensures ∙ ap₂ fed (c .before .before .before .begin2 .ensures) (c .before .before .pad2 .ensures) in
+    let outer : c .feed2 .result ≡ fed begun (keyPad 0x5c key) = c .feed2 .ensures ∙ ap₂ fed (c .before .before .before .begin2 .ensures) (c .before .before .pad2 .ensures) in
     (λ k. record { inner = inner k; outer = outer k })
 
 pub start-spec : {M : Type 1} → statement M

@@ -7,14 +7,14 @@ use borrow.Author.Needs.{needs}
 use Rattle.lps.specs.Vectors.{X}
 use Rattle.lps.proofs.Words.{length-LPS}
 use Rattle.lps.proofs.Columns.{turned}
-use Rattle.rounds.specs.Keys.{through, gBy}
+use Rattle.rounds.specs.Keys.{throughKeys, gBy}
 use Rattle.rounds.proofs.LentLaws.{X-at}
 use Rattle.rounds.proofs.KeyLaws.{through-turn, through-end, with-not, with-all}
 use Rattle.rounds.proofs.compress_with.Statement.{statement}
 use Rattle.rounds.proofs.compress_with.Tie as tie
 
 abbrev Inv-loop : tie.InvT-loop
-Inv-loop keys h m s₀ i₀ s i = (i ≤ 12) × (length keys ≡ 104) × (length s ≡ 8) × (through (12 - i) (drop (8 * i) keys) s ≡ through 12 keys m)
+Inv-loop keys h m s₀ i₀ s i = (i ≤ 12) × (length keys ≡ 104) × (length s ≡ 8) × (throughKeys (12 - i) (drop (8 * i) keys) s ≡ throughKeys 12 keys m)
 
 abbrev μ-loop : tie.MeasureT-loop
 μ-loop keys h m s₀ i₀ s i = 12 - i
@@ -38,7 +38,7 @@ loop-again c =
       omega arith,
       n,
       ap length r ∙ length-LPS (X (l .s) k),
-      ap (through (12 - (l .i + 1)) (drop (8 * (l .i + 1)) ks)) r ∙ through-turn ks (a .m) (l .i) k (l .s) h e (l .inv .3),
+      ap (throughKeys (12 - (l .i + 1)) (drop (8 * (l .i + 1)) ks)) r ∙ through-turn ks (a .m) (l .i) k (l .s) h e (l .inv .3),
     )
 
 returns-2 : tie.Need-returns-2 Inv-loop μ-loop

@@ -21,8 +21,7 @@ use Rattle.shapes.specs.declared.command.Command.{Command}
 use Rattle.shapes.specs.declared.command.Command.the-variants.{SetPin, SetMark, ClearMark}
 use Rattle.shapes.specs.declared.command.Listed.{Listed}
 use Rattle.shapes.specs.declared.command.Listed.the-variants.{One, Unlisted}
-use Rattle.shapes.specs.Length.{lengthOf}
-use Rattle.shapes.specs.Shape.{tagOf, dataOf, shape}
+use Rattle.shapes.specs.Shape.{lengthOf, tagOf, dataOf, dataOfUnder, shape}
 use Rattle.shapes.specs.Command.{commandOf, Lists}
 use Rattle.shapes.specs.Answers.{shaped, Tells}
 use Rattle.shapes.proofs.CommandLaws.{why-unlisted}
@@ -55,8 +54,8 @@ use Rattle.card.specs.declared.Card.{Card}
 use Rattle.card.specs.declared.Reply.{Reply}
 use Rattle.card.specs.Record.{sound, Kept, kept, withTransaction, withKept, withCounters, withSession, oneFailed}
 use Rattle.card.specs.Keys.{sessionKeyOf, smiKey, smcKey, counterKeyOf}
-use Rattle.card.specs.Calls.{Call, Open, IssuerAnswer, Script, Close, Withdraw, Counters, Verdict, refuse, accept, firstStruck, read, judgedScript, judged, grown, cryptogramFor, arpcFor, countersFor}
-use Rattle.card.specs.Calls.{scriptChecks, gives, newPin, newMark, pend, settled, accepted, due, after, reply, plain, step}
+use Rattle.card.specs.Calls.{Call, Open, IssuerAnswer, Script, Close, Withdraw, Counters, Verdict, refuse, accept, firstStruck, read, judgedScript, judged, judgedUnder, grown, cryptogramFor, arpcFor, countersFor}
+use Rattle.card.specs.Calls.{scriptChecks, gives, newPin, newMark, pend, settled, accepted, dueUnder, afterUnder, reply, plain, step}
 use Rattle.card.specs.Inner.{scriptAs, takenAs, obeyedAs, judgedAs}
 use Rattle.card.specs.Words.{Fits}
 use Rattle.card.specs.Personalise.{blank, personalised}
@@ -156,7 +155,7 @@ opened-by r d k kind x t n l ek ej ex et en =
 -- the refusals of an unsound record, and of a sound one
 module _ (r : Card) (a : Reply) (s : Bool) (e : s ≡ sound r) where
   pub unsound : (c : Call) → not s ≡ true → a ≡ plain r 1 → a ≡ step r c
-  unfolding due after
+  unfolding dueUnder afterUnder
   unsound c h z = z ∙ rw (sym e ∙ not-true s h)
 
   module _ (h : not s ≡ false) where
@@ -164,31 +163,31 @@ module _ (r : Card) (a : Reply) (s : Bool) (e : s ≡ sound r) where
     fine = sym e ∙ not-false s h
 
     pub withdraw-done : (t : Transaction) → t ≡ none → a ≡ plain (withTransaction r t) 0 → a ≡ step r Withdraw
-    unfolding judged due after
+    unfolding judgedUnder dueUnder afterUnder
     withdraw-done t n z = z ∙ rw (fine, n)
 
     module _ (o : Bool) (eo : o ≡ isOpen (r .transaction .phase)) where
       pub open-busy : (d : List ℕ) → o ≡ true → a ≡ plain r 6 → a ≡ step r (Open d)
-      unfolding judged due after
+      unfolding judgedUnder dueUnder afterUnder
       open-busy d b z = z ∙ rw (fine, sym eo ∙ b)
 
       module _ (d : List ℕ) (b : o ≡ false) where
         pub open-input : (length d ≡ 65 → ⊥) → a ≡ plain r 1 → a ≡ step r (Open d)
-        unfolding judged due after
+        unfolding judgedUnder dueUnder afterUnder
         open-input l z = z ∙ rw (fine, sym eo ∙ b, ne-eqb _ _ l)
 
         module _ (l : length d ≡ 65) where
           pub open-atc : r .atc ≡ 65535 → a ≡ plain r 7 → a ≡ step r (Open d)
-          unfolding judged due after
+          unfolding judgedUnder dueUnder afterUnder
           open-atc x z = z ∙ rw (fine, sym eo ∙ b, eq-eqb _ _ l, eq-eqb _ _ x)
 
           module _ (x : r .atc ≡ 65535 → ⊥) where
             pub open-session : r .counters .session ≡ 65535 → a ≡ plain r 7 → a ≡ step r (Open d)
-            unfolding judged due after
+            unfolding judgedUnder dueUnder afterUnder
             open-session y z = z ∙ rw (fine, sym eo ∙ b, eq-eqb _ _ l, ne-eqb _ _ x, eq-eqb _ _ y)
 
             pub open-done : (r .counters .session ≡ 65535 → ⊥) → a ≡ reply (accepted r (Open d)) (gives r (Open d)) → a ≡ step r (Open d)
-            unfolding judged due after
+            unfolding judgedUnder dueUnder afterUnder
             open-done y z = z ∙ rw (fine, sym eo ∙ b, eq-eqb _ _ l, ne-eqb _ _ x, ne-eqb _ _ y)
 
       module _ (b : not o ≡ true) (z : a ≡ plain r 6) where
@@ -196,15 +195,15 @@ module _ (r : Card) (a : Reply) (s : Bool) (e : s ≡ sound r) where
         shut = sym eo ∙ not-true o b
 
         pub script-idle : (x m : List ℕ) → a ≡ step r (Script x m)
-        unfolding judged judgedScript due after
+        unfolding judgedUnder judgedScript dueUnder afterUnder
         script-idle x m = let v : judged r (Script x m) ≡ refuse PhaseWrong = rw shut in z ∙ rw (fine, v, shut)
 
         pub close-idle : a ≡ step r Close
-        unfolding judged due after
+        unfolding judgedUnder dueUnder afterUnder
         close-idle = z ∙ rw (fine, shut)
 
         pub counters-idle : a ≡ step r Counters
-        unfolding judged due after
+        unfolding judgedUnder dueUnder afterUnder
         counters-idle = z ∙ rw (fine, shut)
 
       module _ (b : not o ≡ false) where
@@ -212,36 +211,36 @@ module _ (r : Card) (a : Reply) (s : Bool) (e : s ≡ sound r) where
         ajar = sym eo ∙ not-false o b
 
         by-verdict : (x m : List ℕ) (v : Verdict) → judged r (Script x m) ≡ v → scriptAs r (read r x m) v ≡ step r (Script x m)
-        unfolding due after
+        unfolding dueUnder afterUnder
         by-verdict x m (refuse q) w = rw (fine, w, ajar)
         by-verdict x m accept w = rw (fine, w)
 
         pub script-on : (x m : List ℕ) → a ≡ judgedAs r x (read r x m) → a ≡ step r (Script x m)
-        unfolding judged judgedScript
+        unfolding judgedUnder judgedScript
         script-on x m z = z ∙ by-verdict x m (firstStruck (drop 1 (scriptChecks r x (read r x m)))) (rw ajar)
 
         pub close-spoilt : (t : Transaction) → r .transaction .spoilt ≡ true → t ≡ none → a ≡ plain (withTransaction r t) 10 → a ≡ step r Close
-        unfolding judged due after
+        unfolding judgedUnder dueUnder afterUnder
         close-spoilt t p n z = z ∙ rw (fine, ajar, p, n)
 
         pub close-done : (t : Transaction) (d : Card) → r .transaction .spoilt ≡ false → d ≡ withKept r (settled (r .transaction) (kept r)) → t ≡ none
             → a ≡ plain (withTransaction d t) 0 → a ≡ step r Close
-        unfolding judged due after
+        unfolding judgedUnder dueUnder afterUnder
         close-done t d p l n z = z ∙ ap₂ (λ (x : Card) (y : Transaction). plain (withTransaction x y) 0) l n ∙ rw (fine, ajar, p)
 
     module _ (x u : List ℕ) (o : Bool) (eo : o ≡ isArqc (r .transaction .phase)) where
       pub answer-phase : not o ≡ true → a ≡ plain r 6 → a ≡ step r (IssuerAnswer x u)
-      unfolding judged due after
+      unfolding judgedUnder dueUnder afterUnder
       answer-phase b z = z ∙ rw (fine, sym eo ∙ not-true o b)
 
       module _ (b : not o ≡ false) where
         pub answer-arpc : (length x ≡ 8 → ⊥) → a ≡ plain r 1 → a ≡ step r (IssuerAnswer x u)
-        unfolding judged due after
+        unfolding judgedUnder dueUnder afterUnder
         answer-arpc l z = z ∙ rw (fine, sym eo ∙ not-false o b, ne-eqb _ _ l)
 
         module _ (l : length x ≡ 8) where
           pub answer-csu : (length u ≡ 4 → ⊥) → a ≡ plain r 1 → a ≡ step r (IssuerAnswer x u)
-          unfolding judged due after
+          unfolding judgedUnder dueUnder afterUnder
           answer-csu n z = z ∙ rw (fine, sym eo ∙ not-false o b, eq-eqb _ _ l, ne-eqb _ _ n)
 
           module _ (n : length u ≡ 4) (y : List ℕ) (ey : y ≡ arpcFor r u) (v : Bool) (ev : v ≡ same x y) where
@@ -249,16 +248,16 @@ module _ (r : Card) (a : Reply) (s : Bool) (e : s ≡ sound r) where
             compared = ev ∙ ap (same x) ey
 
             pub answer-differs : not v ≡ true → a ≡ plain r 11 → a ≡ step r (IssuerAnswer x u)
-            unfolding judged due after
+            unfolding judgedUnder dueUnder afterUnder
             answer-differs w z = z ∙ rw (fine, sym eo ∙ not-false o b, eq-eqb _ _ l, eq-eqb _ _ n, sym compared ∙ not-true v w)
 
             pub answer-done : not v ≡ false → a ≡ plain (withCounters r (r .atc) (withSession (r .counters) 0)) 0 → a ≡ step r (IssuerAnswer x u)
-            unfolding judged due after
+            unfolding judgedUnder dueUnder afterUnder
             answer-done w z = z ∙ rw (fine, sym eo ∙ not-false o b, eq-eqb _ _ l, eq-eqb _ _ n, sym compared ∙ not-false v w)
 
 pub counters-done : (r : Card) (s o : Bool) (g : List ℕ) → s ≡ sound r → not s ≡ false → o ≡ isOpen (r .transaction .phase) → not o ≡ false → g ≡ countersFor r
     → record { card = r; code = 0; kind = 0; bytes = g } ≡ step r Counters
-unfolding judged due after
+unfolding judgedUnder dueUnder afterUnder
 counters-done r s o g e h eo b z = rw (sym e ∙ not-false s h, sym eo ∙ not-false o b, z)
 
 -- a script: what an accepted command makes pending, or 9
@@ -352,7 +351,7 @@ pub judge-end : (m : List ℕ) (o : Opened) (t p n : ℕ) → Tells o (shaped m)
 judge-end m o t p n e f = let w = told-data m o t p n e f in let s = w .the-size in omega arith
 
 pub judge-data : (m : List ℕ) (o : Opened) (t p n : ℕ) → Tells o (shaped m) (cond (shape m) 0 4) m → o ≡ Data t p n → take ((p + n) - p) (drop p m) ≡ dataOf m
-unfolding dataOf
+unfolding dataOfUnder
 judge-data m o t p n e f =
     let w = told-data m o t p n e f in
     ap₂ {C = List ℕ} (λ x y. take x (drop y m)) (add-sub-cancel-left p n ∙ w .the-length) (w .the-place)

@@ -9,7 +9,7 @@ use Rattle.answers.specs.Refusals.{number}
 use Rattle.transaction.specs.Transaction.{isOpen, none}
 use Rattle.card.specs.declared.Card.{Card}
 use Rattle.card.specs.Record.{sound, Masters, masters, withTransaction}
-use Rattle.card.specs.Calls.{Call, Open, IssuerAnswer, Script, Close, Withdraw, Counters, Verdict, refuse, accept, judged, accepted, spoiledBy, refused, afterBy, after}
+use Rattle.card.specs.Calls.{Call, Open, IssuerAnswer, Script, Close, Withdraw, Counters, Verdict, refuse, accept, judged, accepted, spoiledBy, refused, afterBy, after, afterUnder}
 use Rattle.card.specs.Words.{FitAll}
 use Rattle.card.proofs.CallLaws.{none-fits}
 
@@ -41,5 +41,5 @@ by-verdict r c (refuse q) = by-refused r c q
 by-verdict r c accept = by-accepted r c
 
 pub masters-stay : (r : Card) (c : Call) → masters (after r c) ≡ masters r
-unfolding after
+unfolding afterUnder
 masters-stay r c = either r (afterBy r c (judged r c)) (sound r) (by-verdict r c (judged r c))

@@ -18,10 +18,10 @@ use Rattle.cryptogram.specs.Answers.{kindNumber}
 use Rattle.shapes.specs.declared.command.Command.the-variants.{SetPin, SetMark, ClearMark}
 use Rattle.shapes.specs.declared.command.Listed.{Listed}
 use Rattle.shapes.specs.declared.command.Listed.the-variants.{One, Unlisted}
-use Rattle.shapes.specs.Length.{lengthOf}
-use Rattle.shapes.specs.Shape.{tagOf, dataOf, shape}
-use Rattle.shapes.specs.Command.{commandOf}
-use Rattle.message.specs.Code.{codeFits}
+use Rattle.shapes.specs.Rules.{Rules, present}
+use Rattle.shapes.specs.Shape.{tagOf, lengthOfUnder, dataOfUnder, shapeUnder}
+use Rattle.shapes.specs.Command.{firstOf}
+use Rattle.message.specs.Code.{codeFitsUnder}
 use Rattle.transaction.specs.declared.Transaction.{Transaction}
 use Rattle.transaction.specs.Transaction.{isOpen, none, spoilt, withPending, kindFor, justOpened, isArqc, markFor, markAfter}
 use Rattle.card.specs.declared.Card.{Card}
@@ -55,9 +55,17 @@ pub record Message : Type 0 where
   pub coded : Bool
   pub block : PinRead
 
+abbrev pub readUnder : Rules → Card → List ℕ → List ℕ → Message
+readUnder k r h m =
+    record {
+      shaped = shapeUnder k m;
+      command = firstOf (k .commands) h (tagOf m) (lengthOfUnder k m);
+      coded = codeFitsUnder k (smiKey r) h m;
+      block = decipherPin (smcKey r) (dataOfUnder k m);
+    }
+
 abbrev pub read : Card → List ℕ → List ℕ → Message
-read r h m =
-    record { shaped = shape m; command = commandOf h (tagOf m) (lengthOf m); coded = codeFits (smiKey r) h m; block = decipherPin (smcKey r) (dataOf m) }
+read = readUnder present
 
 abbrev pub unlisted : Listed → Bool
 unlisted (Unlisted q) = true
@@ -95,23 +103,26 @@ arpcFor r csu = arpcOf (subkeys 8 (sessionKeyOf r)) (r .transaction .cryptogram)
 
 -- "Order: Open 6, 1, 7. Issuer answer 6, 1, 11. Close 6, 1, 10. Counters 6, 1. Withdraw 1": the 1 of Close, Withdraw and Counters is a wrong frame
 -- length, which only a trace brings (Frames); an unsound record's 1 stands ahead of all, in due
-unfoldable pub judged : Card → Call → Verdict
-judged r (Open d) =
+unfoldable pub judgedUnder : Rules → Card → Call → Verdict
+judgedUnder k r (Open d) =
     firstStruck
     (strikes (isOpen (r .transaction .phase)) PhaseWrong
     ∷ strikes (not (eqb (length d) 65)) Input
     ∷ strikes (eqb (r .atc) 65535 || eqb (r .counters .session) 65535) CounterFull
     ∷ [])
-judged r (IssuerAnswer arpc csu) =
+judgedUnder k r (IssuerAnswer arpc csu) =
     firstStruck
     (strikes (not (isArqc (r .transaction .phase))) PhaseWrong
     ∷ strikes (not (eqb (length arpc) 8 && eqb (length csu) 4)) Input
     ∷ strikes (not (same arpc (arpcFor r csu))) ArpcDiffers
     ∷ [])
-judged r (Script h m) = judgedScript r h (read r h m)
-judged r Close = firstStruck (strikes (not (isOpen (r .transaction .phase))) PhaseWrong ∷ strikes (r .transaction .spoilt) SpoiltClosed ∷ [])
-judged r Withdraw = accept
-judged r Counters = firstStruck (strikes (not (isOpen (r .transaction .phase))) PhaseWrong ∷ [])
+judgedUnder k r (Script h m) = judgedScript r h (readUnder k r h m)
+judgedUnder k r Close = firstStruck (strikes (not (isOpen (r .transaction .phase))) PhaseWrong ∷ strikes (r .transaction .spoilt) SpoiltClosed ∷ [])
+judgedUnder k r Withdraw = accept
+judgedUnder k r Counters = firstStruck (strikes (not (isOpen (r .transaction .phase))) PhaseWrong ∷ [])
+
+abbrev pub judged : Card → Call → Verdict
+judged = judgedUnder present
 
 -- Open: "counter and session counter grow by 1; the session key comes from the new counter"
 abbrev pub grown : Card → Card
@@ -172,13 +183,16 @@ settled t k =
 abbrev pub acceptedScript : Card → Message → Card
 acceptedScript r x = withTransaction r (pendAll (orders (x .command) (x .block)) (r .transaction))
 
+abbrev pub acceptedUnder : Rules → Card → Call → Card
+acceptedUnder k r (Open d) = withTransaction (grown r) (justOpened (r .mark) (cryptogramFor (grown r) d))
+acceptedUnder k r (IssuerAnswer arpc csu) = withCounters r (r .atc) (withSession (r .counters) 0)
+acceptedUnder k r (Script h m) = acceptedScript r (readUnder k r h m)
+acceptedUnder k r Close = withTransaction (withKept r (settled (r .transaction) (kept r))) none
+acceptedUnder k r Withdraw = withTransaction r none
+acceptedUnder k r Counters = r
+
 abbrev pub accepted : Card → Call → Card
-accepted r (Open d) = withTransaction (grown r) (justOpened (r .mark) (cryptogramFor (grown r) d))
-accepted r (IssuerAnswer arpc csu) = withCounters r (r .atc) (withSession (r .counters) 0)
-accepted r (Script h m) = acceptedScript r (read r h m)
-accepted r Close = withTransaction (withKept r (settled (r .transaction) (kept r))) none
-accepted r Withdraw = withTransaction r none
-accepted r Counters = r
+accepted = acceptedUnder present
 
 -- the table's column "Record after": as before, but for Script, whose every refusal in an open transaction spoils it and whose 8 adds 1 to the failure
 -- counter, and for 10: "pending dropped, none open"
@@ -202,15 +216,24 @@ abbrev pub dueBy : Card → Call → Verdict → Answer
 dueBy r c (refuse q) = only (number q)
 dueBy r c accept = gives r c
 
+abbrev pub afterByUnder : Rules → Card → Call → Verdict → Card
+afterByUnder k r c (refuse q) = refused r c q
+afterByUnder k r c accept = acceptedUnder k r c
+
 abbrev pub afterBy : Card → Call → Verdict → Card
-afterBy r c (refuse q) = refused r c q
-afterBy r c accept = accepted r c
+afterBy = afterByUnder present
 
-unfoldable pub due : Card → Call → Answer
-due r c = cond (sound r) (dueBy r c (judged r c)) (only (number Input))
+unfoldable pub dueUnder : Rules → Card → Call → Answer
+dueUnder k r c = cond (sound r) (dueBy r c (judgedUnder k r c)) (only (number Input))
 
-unfoldable pub after : Card → Call → Card
-after r c = cond (sound r) (afterBy r c (judged r c)) r
+abbrev pub due : Card → Call → Answer
+due = dueUnder present
+
+unfoldable pub afterUnder : Rules → Card → Call → Card
+afterUnder k r c = cond (sound r) (afterByUnder k r c (judgedUnder k r c)) r
+
+abbrev pub after : Card → Call → Card
+after = afterUnder present
 
 abbrev pub reply : Card → Answer → Reply
 reply r a = record { card = r; code = a .number; kind = a .kind; bytes = a .bytes }
@@ -218,5 +241,8 @@ reply r a = record { card = r; code = a .number; kind = a .kind; bytes = a .byte
 abbrev pub plain : Card → ℕ → Reply
 plain r n = reply r (only n)
 
+abbrev pub stepUnder : Rules → Card → Call → Reply
+stepUnder k r c = reply (afterUnder k r c) (dueUnder k r c)
+
 abbrev pub step : Card → Call → Reply
-step r c = reply (after r c) (due r c)
+step = stepUnder present

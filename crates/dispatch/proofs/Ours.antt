@@ -14,10 +14,10 @@ use Rattle.card.specs.Record.{sound}
 use Rattle.card.specs.Calls.{Call, Open, IssuerAnswer, Script, Close, Withdraw, Counters, plain, step}
 use Rattle.card.specs.Personalise.{blank}
 use Rattle.lines.specs.declared.Held.{Held}
-use Rattle.lines.specs.Lines.{longest, lastFrame, hexadecimal, octetsOf, readable, lines, lineFor}
+use Rattle.lines.specs.Lines.{longest, lastFrame, hexadecimal, octetsOf, readable, readableUnder, lines, lineFor}
 use Rattle.lines.specs.Answers.{nothing, LineAnswer, numbered, octetsFor, replied}
-use Rattle.frames.specs.Frames.{personalisedBy, starts as startsNow, overlong, called, calling, framed, answerTo}
-use Rattle.trace.specs.Traced.{answers, traced}
+use Rattle.frames.specs.Frames.{personalisedBy, starts as startsNow, overlong, calledUnder, callingUnder, framed, framedUnder, answerTo, answerToUnder}
+use Rattle.trace.specs.Traced.{answers, answersUnder, traced, tracedUnder}
 use Rattle.history.specs.Run.{Loading, personalisedWith, frame, ours}
 use Rattle.dispatch.specs.Dispatch.{Frame, unreadable, misfit, personalise, call, surplus, loadingIn, alone, frameOf, frameIn}
 use Rattle.dispatch.specs.Behind.{withRecord, numberBy, surplusNumber, answered, afterFrames, answersTo, tracedBy}
@@ -87,7 +87,7 @@ alone-so h c s = go (eqb (length s) 0) refl
     go false e = rw e (surplus-so h c s)
 
 pub by-frame : (h : Held) (f : ℕ) (s : List ℕ) → f ≤ lastFrame → framed h f s ≡ now h (frameOf f s)
-unfolding framed frameOf calling called personalisedBy overlong
+unfolding framedUnder frameOf callingUnder calledUnder personalisedBy overlong
 by-frame h zero s p = go (eqb (length s) 115)
   where
     go : (e : Bool) → startsNow h (cond e (personalisedWith (loadingIn s)) (plain blank 1)) ≡ now h (cond e (personalise (loadingIn s)) misfit)
@@ -102,13 +102,13 @@ by-frame h (suc (suc (suc (suc (suc (suc zero)))))) s p = alone-so h Counters s
 by-frame h (suc (suc (suc (suc (suc (suc (suc f))))))) s p = absurd (omega arith)
 
 pub first-small : (l : List ℕ) → readable l ≡ true → getD (octetsOf l) 0 0 ≤ lastFrame
-unfolding readable
+unfolding readableUnder
 first-small l e =
     let a = and-eq-true-iff (leb (length l) longest) _ .0 e in
     leb-true _ _ (and-eq-true-iff (hexadecimal l) _ .0 (a .1) .1)
 
 pub of-line : (h : Held) (l : List ℕ) → answerTo h l ≡ asAnswer (answered ours (ofHeld h) (frameIn l))
-unfolding answerTo frameIn answered
+unfolding answerToUnder frameIn answered
 of-line h l = go (readable l) refl
   where
     go : (e : Bool) → readable l ≡ e
@@ -125,12 +125,12 @@ after-lines h (l ∷ ls) =
     after-lines (answerTo h l .after) ls ∙ ap (λ (a : LineAnswer). afterFrames ours (ofHeld (a .after)) (map frameIn ls)) (of-line h l)
 
 of-answers : (h : Held) (ls : List (List ℕ)) → answers h ls ≡ flatMap lineFor (answersTo ours (ofHeld h) (map frameIn ls))
-unfolding answers answersTo flatMap
+unfolding answersUnder answersTo flatMap
 of-answers h [] = refl
 of-answers h (l ∷ ls) =
     ap (λ (t : List ℕ). lineFor (answerTo h l .octets) ++ t) (of-answers (answerTo h l .after) ls)
     ∙ ap (λ (a : LineAnswer). lineFor (a .octets) ++ flatMap lineFor (answersTo ours (ofHeld (a .after)) (map frameIn ls))) (of-line h l)
 
 pub of-trace : (text : List ℕ) → traced text ≡ tracedBy ours blank text
-unfolding traced tracedBy
+unfolding tracedUnder tracedBy
 of-trace text = of-answers nothing (lines text)

@@ -14,19 +14,18 @@ use Rattle.octets.specs.Same.{same}
 use Rattle.pin.specs.Answers.{readBlock}
 use Rattle.shapes.specs.declared.command.Listed.{Listed}
 use Rattle.shapes.specs.declared.command.Listed.the-variants.{One, Unlisted}
-use Rattle.shapes.specs.Length.{lengthOf}
-use Rattle.shapes.specs.Shape.{tagOf, shape}
+use Rattle.shapes.specs.Shape.{lengthOf, tagOf, shape}
 use Rattle.shapes.specs.Command.{commandOf}
 use Rattle.shapes.proofs.CommandLaws.{why-unlisted}
 use Rattle.transaction.specs.Transaction.{isOpen, isArqc}
 use Rattle.card.specs.declared.Card.{Card}
 use Rattle.card.specs.Record.{sound}
-use Rattle.card.specs.Calls.{Call, Open, IssuerAnswer, Script, Close, Withdraw, Counters, Check, strikes, Verdict, refuse, accept, firstStruck, read, unlisted, whyUnlisted, unread, judgedScript, arpcFor, judged, Answer as CallAnswer, only, gives, dueBy, due}
+use Rattle.card.specs.Calls.{Call, Open, IssuerAnswer, Script, Close, Withdraw, Counters, Check, strikes, Verdict, refuse, accept, firstStruck, read, unlisted, whyUnlisted, unread, judgedScript, arpcFor, judged, judgedUnder, Answer as CallAnswer, only, gives, dueBy, due, dueUnder}
 use Rattle.card.specs.Personalise.{fresh, loading, loadedBy, personalised}
 use Rattle.lines.specs.declared.Held.{Held}
 use Rattle.lines.specs.Lines.{lastFrame, octetsOf, readable}
 use Rattle.lines.specs.Answers.{LineAnswer, octetsFor}
-use Rattle.frames.specs.Frames.{overlong, answerTo}
+use Rattle.frames.specs.Frames.{overlong, answerTo, answerToUnder}
 use Rattle.history.specs.Run.{Loading, personalisedWith, did, frame, ours}
 use Rattle.dispatch.specs.Dispatch.{Frame, unreadable, misfit, personalise, call, surplus, loadingIn, alone, frameOf}
 use Rattle.dispatch.specs.Behind.{HeldBy, withRecord, AnswerBy, numberBy, octetsIn, answered}
@@ -60,7 +59,7 @@ three true b c q w x e f g = e
 three false b c q w x e f g = two b c w x f g
 
 not-judged : (r : Card) (c : Call) → asThirteen (judged r c) ≡ false
-unfolding judged judgedScript
+unfolding judgedUnder judgedScript
 not-judged r (Open d) =
     three (isOpen (r .transaction .phase)) (not (eqb (length d) 65)) (eqb (r .atc) 65535 || eqb (r .counters .session) 65535) PhaseWrong Input CounterFull refl refl refl
 not-judged r (IssuerAnswer x u) =
@@ -98,7 +97,7 @@ not-given r Withdraw = refl
 not-given r Counters = refl
 
 not-due : (r : Card) (c : Call) → thirteen (due r c .number) ≡ false
-unfolding due
+unfolding dueUnder
 not-due r c = go (sound r) (judged r c) (not-judged r c)
   where
     go : (b : Bool) (v : Verdict) → asThirteen v ≡ false → thirteen (cond b (dueBy r c v) (only (number Input)) .number) ≡ false
@@ -187,7 +186,7 @@ frame-read (suc (suc (suc (suc (suc (suc zero)))))) s p = alone-read Counters s
 frame-read (suc (suc (suc (suc (suc (suc (suc f))))))) s p = absurd (omega arith)
 
 pub of-unreadable : (h : Held) (l : List ℕ) → (answerTo h l .octets ≡ 13 ∷ []) ↔ (readable l ≡ false)
-unfolding answerTo first
+unfolding answerToUnder first
 of-unreadable h l = (go (readable l) refl, λ e. rw e)
   where
     go : (e : Bool) → readable l ≡ e → answerTo h l .octets ≡ 13 ∷ [] → readable l ≡ false

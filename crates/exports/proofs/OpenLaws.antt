@@ -6,30 +6,29 @@ use Prim.Native.Nat.{ℕ, _%_}
 use native.Mathlib.Omega.{arith}
 use Rattle.shapes.specs.declared.Opened.{Opened}
 use Rattle.shapes.specs.declared.Opened.the-variants.{Data, Refused}
-use Rattle.shapes.specs.Shape.{shape, tagOf}
-use Rattle.shapes.specs.Length.{lengthOf, placeOf}
-use Rattle.shapes.specs.Answers.{answer, shaped, openedNumber, openedValues}
+use Rattle.shapes.specs.Shape.{lengthOf, placeOf, shape, tagOf}
+use Rattle.shapes.specs.Answers.{answerUnder, shaped, openedNumber, openedValues}
 use Rattle.shapes.proofs.AnswerLaws.{Told, tells-shaped, told-data, shaped-good}
 use Rattle.message.specs.Code.{given, codeFits}
-use Rattle.message.specs.Answers.{openNumber, opened}
+use Rattle.message.specs.Answers.{openNumberUnder, opened, openedUnder}
 use Rattle.exports.specs.Lent.{Given, GivenOpened}
 use Rattle.exports.proofs.GiveLaws.{given-any}
 
 module _ (key header m : List ℕ) where
   found : given key header ≡ true → shape m ≡ true → codeFits key header m ≡ true → opened key header m ≡ Data (tagOf m) (placeOf (lengthOf m)) (lengthOf m)
-  unfolding opened openNumber answer
+  unfolding openedUnder openNumberUnder answerUnder
   found a b d = simp (a, b, d)
 
   by-code : given key header ≡ true → shape m ≡ true → codeFits key header m ≡ false → opened key header m ≡ Refused 8
-  unfolding opened openNumber answer
+  unfolding openedUnder openNumberUnder answerUnder
   by-code a b d = simp (a, b, d)
 
   by-shape : given key header ≡ true → shape m ≡ false → opened key header m ≡ Refused 4
-  unfolding opened openNumber answer
+  unfolding openedUnder openNumberUnder answerUnder
   by-shape a b = simp (a, b)
 
   by-length : given key header ≡ false → opened key header m ≡ Refused 1
-  unfolding opened openNumber answer
+  unfolding openedUnder openNumberUnder answerUnder
   by-length a = simp a
 
   -- no refusal is 0, and no refusal is data

@@ -17,14 +17,14 @@ use Rattle.transaction.specs.Transaction.{isOpen}
 use Rattle.card.specs.declared.Card.{Card}
 use Rattle.card.specs.declared.Reply.{Reply}
 use Rattle.card.specs.Record.{sound}
-use Rattle.card.specs.Calls.{judged, due, after, plain, step, Open, IssuerAnswer, Script, Close, Withdraw, Counters}
+use Rattle.card.specs.Calls.{judgedUnder, dueUnder, afterUnder, plain, step, Open, IssuerAnswer, Script, Close, Withdraw, Counters}
 use Rattle.card.specs.Personalise.{personalised}
 use Rattle.lines.specs.declared.Held.{Held}
 use Rattle.lines.specs.declared.Said.{Said}
-use Rattle.lines.specs.Lines.{longest, keptSigns, lastFrame, legible, hexadecimal, octetsOf, readable}
+use Rattle.lines.specs.Lines.{longest, keptSigns, lastFrame, legible, hexadecimal, octetsOf, readable, readableUnder}
 use Rattle.lines.specs.Answers.{LineAnswer, holding, numbered, replied}
 use Rattle.lines.specs.Said.{said}
-use Rattle.frames.specs.Frames.{part, personalisedBy, starts, overlong, bare, called, calling, framed, answerTo}
+use Rattle.frames.specs.Frames.{part, personalisedBy, starts, overlong, bare, called, calledUnder, callingUnder, framed, framedUnder, answerTo, answerToUnder}
 
 -- 00
 pub fresh-made : (s ac smi smc cs b : List ℕ) (atc : ℕ) (p : Reply) → length s ≡ 115
@@ -52,7 +52,7 @@ module _ (h : Held) (s : List ℕ) (x : Said) where
 -- 04 and 06 with bytes after: what Close says of the phase
 phase-first : (r : Card) (a o s : Bool) → sound r ≡ a → isOpen (r .transaction .phase) ≡ o → r .transaction .spoilt ≡ s
     → overlong r ≡ plain r (cond (eqb (step r Close .code) 6) 6 1)
-unfolding overlong judged due after
+unfolding overlong judgedUnder dueUnder afterUnder
 phase-first r false o s e f g = rw e
 phase-first r true false s e f g = rw (e, f)
 phase-first r true true false e f g = rw (e, f, g)
@@ -100,51 +100,51 @@ bare-so s a b x h e = e ∙ rw (eq-eqb _ _ h)
 -- 01 to 06
 module _ (r : Card) (f : ℕ) (s : List ℕ) (x : Reply) where
   pub called-1 : f ≡ 1 → x ≡ step r (Open s) → x ≡ called r f s
-  unfolding called
+  unfolding calledUnder
   called-1 h e = e ∙ rw h
 
   pub called-2 : f ≡ 2 → x ≡ step r (IssuerAnswer (take 8 s) (drop 8 s)) → x ≡ called r f s
-  unfolding called
+  unfolding calledUnder
   called-2 h e = e ∙ rw h
 
   pub called-3 : f ≡ 3 → x ≡ step r (Script (take 4 s) (drop 4 s)) → x ≡ called r f s
-  unfolding called
+  unfolding calledUnder
   called-3 h e = e ∙ rw h
 
   pub called-4 : f ≡ 4 → x ≡ bare s (step r Close) (overlong r) → x ≡ called r f s
-  unfolding called
+  unfolding calledUnder
   called-4 h e = e ∙ rw h
 
   pub called-5 : f ≡ 5 → x ≡ bare s (step r Withdraw) (plain r 1) → x ≡ called r f s
-  unfolding called
+  unfolding calledUnder
   called-5 h e = e ∙ rw h
 
   pub called-6 : None 1 5 f → x ≡ bare s (step r Counters) (overlong r) → x ≡ called r f s
-  unfolding called
+  unfolding calledUnder
   called-6 n e =
       e ∙ rw (ne-eqb _ _ (n .0 .0 .0 .0 .1), ne-eqb _ _ (n .0 .0 .0 .1), ne-eqb _ _ (n .0 .0 .1), ne-eqb _ _ (n .0 .1), ne-eqb _ _ (n .1))
 
 -- a frame
 module _ (h : Held) (f : ℕ) (s : List ℕ) (x : Said) where
   pub framed-new : f ≡ 0 → x ≡ said (starts h (personalisedBy s)) → x ≡ said (framed h f s)
-  unfolding framed
+  unfolding framedUnder
   framed-new z e = e ∙ rw (eq-eqb _ _ z)
 
   pub framed-none : (f ≡ 0 → ⊥) → not (h .exists) ≡ true → x ≡ said (numbered h 6) → x ≡ said (framed h f s)
-  unfolding framed calling
+  unfolding framedUnder callingUnder
   framed-none z n e = e ∙ rw (ne-eqb _ _ z, not-true (h .exists) n)
 
   pub framed-one : (f ≡ 0 → ⊥) → not (h .exists) ≡ false → (p : Reply) → p ≡ called (h .card) f s → x ≡ said (replied f p) → x ≡ said (framed h f s)
-  unfolding framed calling
+  unfolding framedUnder callingUnder
   framed-one z n p q e = e ∙ rw (ne-eqb _ _ z, not-false (h .exists) n, q)
 
 -- a line
 pub unread : (h : Held) (l : List ℕ) (x : Said) → readable l ≡ false → x ≡ said (numbered h 13) → x ≡ said (answerTo h l)
-unfolding answerTo
+unfolding answerToUnder
 unread h l x n e = e ∙ rw n
 
 pub readable-long : (l : List ℕ) → longest < length l → readable l ≡ false
-unfolding readable
+unfolding readableUnder
 readable-long l n = rw (lt-leb _ _ n)
 
 and-false : (b : Bool) → (b && false) ≡ false
@@ -152,15 +152,15 @@ and-false false = refl
 and-false true = refl
 
 pub readable-foreign : (l : List ℕ) → hexadecimal l ≡ false → readable l ≡ false
-unfolding readable
+unfolding readableUnder
 readable-foreign l n = rw (n, and-false (leb (length l) longest))
 
 pub readable-above : (l : List ℕ) → lastFrame < getD (octetsOf l) 0 0 → readable l ≡ false
-unfolding readable
+unfolding readableUnder
 readable-above l n = rw (lt-leb _ _ n, and-false (hexadecimal l), and-false (leb (length l) longest))
 
 pub readable-so : (l : List ℕ) → length l ≤ longest → hexadecimal l ≡ true → getD (octetsOf l) 0 0 ≤ lastFrame → readable l ≡ true
-unfolding readable
+unfolding readableUnder
 readable-so l n h f = rw (le-leb _ _ n, h, le-leb _ _ f)
 
 -- digits are an even number, and not none
@@ -188,7 +188,7 @@ module _ (h : Held) (l b : List ℕ) (x : Said) (n : length l ≤ longest) (d : 
   read-above f e = unread h l x (readable-above l (rw first-byte at f)) e
 
   pub read-done : getD b 0 0 ≤ lastFrame → x ≡ said (framed h (getD b 0 0) (take (length l / 2 - 1) (drop 1 b))) → x ≡ said (answerTo h l)
-  unfolding answerTo
+  unfolding answerToUnder
   read-done f e =
       e
       ∙ ap₂ (λ (t : ℕ) (s : List ℕ). said (framed h t s)) first-byte (tail-take b (length l / 2) ∙ ap (drop 1) w)

@@ -13,10 +13,10 @@ use Rattle.card.proofs.MasterLaws.{masters-stay}
 use Rattle.lines.specs.declared.Held.{Held}
 use Rattle.lines.specs.Lines.{octetsOf, readable}
 use Rattle.lines.specs.Answers.{LineAnswer, numbered, replied}
-use Rattle.frames.specs.Frames.{overlong, called, calling, framed, answerTo}
+use Rattle.frames.specs.Frames.{overlong, called, calledUnder, calling, callingUnder, framed, framedUnder, answerTo, answerToUnder}
 
 masters-called : (r : Card) (f : ℕ) (s : List ℕ) → masters (called r f s .card) ≡ masters r
-unfolding called overlong
+unfolding calledUnder overlong
 masters-called r f s = go (eqb f 1) (eqb f 2) (eqb f 3) (eqb f 4) (eqb f 5) (eqb (length s) 0)
   where
     go : (a b c d e z : Bool)
@@ -37,7 +37,7 @@ masters-called r f s = go (eqb f 1) (eqb f 2) (eqb f 3) (eqb f 4) (eqb f 5) (eqb
     go false false false false false false = refl
 
 masters-calling : (h : Held) (f : ℕ) (s : List ℕ) → masters (calling h f s .after .card) ≡ masters (h .card)
-unfolding calling replied
+unfolding callingUnder replied
 masters-calling h f s = go (h .exists)
   where
     go : (b : Bool) → masters (cond b (replied f (called (h .card) f s)) (numbered h 6) .after .card) ≡ masters (h .card)
@@ -45,11 +45,11 @@ masters-calling h f s = go (h .exists)
     go false = refl
 
 masters-framed : (h : Held) (f : ℕ) (s : List ℕ) → (f ≡ 0 → ⊥) → masters (framed h f s .after .card) ≡ masters (h .card)
-unfolding framed
+unfolding framedUnder
 masters-framed h f s n = rw (ne-eqb _ _ n) (masters-calling h f s)
 
 pub masters-answer : (h : Held) (l : List ℕ) → (readable l ≡ true → getD (octetsOf l) 0 0 ≡ 0 → ⊥) → masters (answerTo h l .after .card) ≡ masters (h .card)
-unfolding answerTo
+unfolding answerToUnder
 masters-answer h l n = go (readable l) refl
   where
     go : (b : Bool) → readable l ≡ b → masters (cond b (framed h (getD (octetsOf l) 0 0) (drop 1 (octetsOf l))) (numbered h 13) .after .card) ≡ masters (h .card)

@@ -7,14 +7,15 @@ use lib.ListN.{length, take, drop, getD}
 use Rattle.answers.specs.declared.Refusal.the-variants.{Input, PhaseWrong, Unreadable}
 use Rattle.answers.specs.Refusals.{number}
 use Rattle.octets.specs.Numbers.{be}
+use Rattle.shapes.specs.Rules.{Rules, present}
 use Rattle.transaction.specs.Transaction.{isOpen}
 use Rattle.card.specs.declared.Card.{Card}
 use Rattle.card.specs.declared.Reply.{Reply}
 use Rattle.card.specs.Record.{sound}
-use Rattle.card.specs.Calls.{plain, step, Open, IssuerAnswer, Script, Close, Withdraw, Counters}
+use Rattle.card.specs.Calls.{plain, stepUnder, Open, IssuerAnswer, Script, Close, Withdraw, Counters}
 use Rattle.card.specs.Personalise.{blank, personalised}
 use Rattle.lines.specs.declared.Held.{Held}
-use Rattle.lines.specs.Lines.{octetsOf, readable}
+use Rattle.lines.specs.Lines.{octetsOf, readableUnder}
 use Rattle.lines.specs.Answers.{holding, LineAnswer, numbered, replied}
 
 -- the n bytes from a place on
@@ -41,22 +42,35 @@ abbrev pub bare : List ℕ → Reply → Reply → Reply
 bare s a b = cond (eqb (length s) 0) a b
 
 -- "01 Open, 02 Issuer answer (ARPC 8, CSU 4), 03 Script, 04 Close, 05 Withdraw, 06 Counters"
-unfoldable pub called : Card → ℕ → List ℕ → Reply
-called r f s =
-    cond (eqb f 1) (step r (Open s))
-    (cond (eqb f 2) (step r (IssuerAnswer (take 8 s) (drop 8 s)))
-    (cond (eqb f 3) (step r (Script (take 4 s) (drop 4 s)))
-    (cond (eqb f 4) (bare s (step r Close) (overlong r))
-    (cond (eqb f 5) (bare s (step r Withdraw) (plain r (number Input))) (bare s (step r Counters) (overlong r))))))
+unfoldable pub calledUnder : Rules → Card → ℕ → List ℕ → Reply
+calledUnder k r f s =
+    cond (eqb f 1) (stepUnder k r (Open s))
+    (cond (eqb f 2) (stepUnder k r (IssuerAnswer (take 8 s) (drop 8 s)))
+    (cond (eqb f 3) (stepUnder k r (Script (take 4 s) (drop 4 s)))
+    (cond (eqb f 4) (bare s (stepUnder k r Close) (overlong r))
+    (cond (eqb f 5) (bare s (stepUnder k r Withdraw) (plain r (number Input))) (bare s (stepUnder k r Counters) (overlong r))))))
+
+abbrev pub called : Card → ℕ → List ℕ → Reply
+called = calledUnder present
 
 -- "Before a record exists, frames 01 to 06 answer 6."
-unfoldable pub calling : Held → ℕ → List ℕ → LineAnswer
-calling h f s = cond (h .exists) (replied f (called (h .card) f s)) (numbered h (number PhaseWrong))
+unfoldable pub callingUnder : Rules → Held → ℕ → List ℕ → LineAnswer
+callingUnder k h f s = cond (h .exists) (replied f (calledUnder k (h .card) f s)) (numbered h (number PhaseWrong))
+
+abbrev pub calling : Held → ℕ → List ℕ → LineAnswer
+calling = callingUnder present
 
 -- a frame: its first byte, and the rest
-unfoldable pub framed : Held → ℕ → List ℕ → LineAnswer
-framed h f s = cond (eqb f 0) (starts h (personalisedBy s)) (calling h f s)
+unfoldable pub framedUnder : Rules → Held → ℕ → List ℕ → LineAnswer
+framedUnder k h f s = cond (eqb f 0) (starts h (personalisedBy s)) (callingUnder k h f s)
+
+abbrev pub framed : Held → ℕ → List ℕ → LineAnswer
+framed = framedUnder present
 
 -- a line
-unfoldable pub answerTo : Held → List ℕ → LineAnswer
-answerTo h l = cond (readable l) (framed h (getD (octetsOf l) 0 0) (drop 1 (octetsOf l))) (numbered h (number Unreadable))
+unfoldable pub answerToUnder : Rules → Held → List ℕ → LineAnswer
+answerToUnder k h l =
+    cond (readableUnder k l) (framedUnder k h (getD (octetsOf l) 0 0) (drop 1 (octetsOf l))) (numbered h (number Unreadable))
+
+abbrev pub answerTo : Held → List ℕ → LineAnswer
+answerTo = answerToUnder present

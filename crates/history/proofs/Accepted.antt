@@ -12,18 +12,18 @@ use Rattle.answers.proofs.Laws.{not-zero}
 use Rattle.card.specs.declared.Card.{Card}
 use Rattle.card.specs.declared.Reply.{Reply}
 use Rattle.card.specs.Record.{sound}
-use Rattle.card.specs.Calls.{Call, Script, Verdict, refuse, accept, judgedScript, judged, due, after, plain, step}
+use Rattle.card.specs.Calls.{Call, Script, Verdict, refuse, accept, judgedScript, judged, judgedUnder, dueUnder, afterUnder, plain, step}
 use Rattle.history.specs.Demand2.{Accepts, Differs, DiffersExactly}
 use Rattle.history.proofs.Change.{same-code, format-so, Change, change, step-by, early, spoiled, differed, took, quiet}
 
 -- 01: "Any unsound record gets 1 ahead of all other checks and comes back unchanged, Script included."
 pub unsound-law : (r : Card) (c : Call) → sound r ≡ false → step r c ≡ plain r 1
-unfolding due after
+unfolding dueUnder afterUnder
 unsound-law r c e = rw e
 
 -- where the checks pass, the verdict is to accept
 pub passed : (r : Card) (h m : List ℕ) → Accepts r h m → judged r (Script h m) ≡ accept
-unfolding judged judgedScript
+unfolding judgedUnder judgedScript
 passed r h m a = rw (a .phase, eq-eqb _ _ (a .header), a .shape, a .instruction, ne-eqb _ _ (a .counter), same-code r h m ∙ a .code, format-so a)
 
 passes : {r : Card} {h m : List ℕ} {x : Reply} → Change r (Script h m) x → x .code ≡ 0 → Accepts r h m
@@ -49,7 +49,7 @@ accepted-exactly r h m = (there (sound r) refl, λ a. ap (λ (x : Reply). x .cod
     there false e z = absurd (eqb-false 1 0 refl (sym (ap (λ (x : Reply). x .code) (unsound-law r (Script h m) e)) ∙ z))
 
 pub differs-exactly : DiffersExactly
-unfolding judged judgedScript due
+unfolding judgedUnder judgedScript dueUnder
 differs-exactly r h m = (
   there (sound r) refl,
   λ a. rw (a .sound, a .phase, eq-eqb _ _ (a .header), a .shape, a .instruction, ne-eqb _ _ (a .counter), same-code r h m ∙ a .code),

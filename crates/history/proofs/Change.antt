@@ -14,8 +14,7 @@ use Rattle.shapes.specs.declared.command.Command.{Command}
 use Rattle.shapes.specs.declared.command.Command.the-variants.{SetPin, SetMark, ClearMark}
 use Rattle.shapes.specs.declared.command.Listed.{Listed}
 use Rattle.shapes.specs.declared.command.Listed.the-variants.{One, Unlisted}
-use Rattle.shapes.specs.Length.{lengthOf}
-use Rattle.shapes.specs.Shape.{tagOf, dataOf, shape as hasShape}
+use Rattle.shapes.specs.Shape.{lengthOf, tagOf, dataOf, shape as hasShape}
 use Rattle.shapes.specs.Command.{commandOf}
 use Rattle.shapes.proofs.CommandLaws.{why-unlisted}
 use Rattle.derive.specs.Derivation.{derived, cardLabel}
@@ -30,7 +29,7 @@ use Rattle.card.specs.declared.Reply.{Reply}
 use Rattle.card.specs.Record.{sound as isSound, withTransaction, withCounters, oneFailed}
 use Rattle.card.specs.Keys.{smiKey, smcKey}
 use Rattle.card.specs.Calls.{Call, Open, IssuerAnswer, Script, Close, Withdraw, Counters}
-use Rattle.card.specs.Calls.{Verdict, refuse, strikes, firstStruck, read, unlisted, whyUnlisted, unread, judgedScript, arpcFor, judged, only, gives, accepted, refused, dueBy, afterBy, due, after, reply, plain, step}
+use Rattle.card.specs.Calls.{Verdict, refuse, strikes, firstStruck, read, unlisted, whyUnlisted, unread, judgedScript, arpcFor, judged, judgedUnder, only, gives, accepted, refused, dueBy, afterBy, dueUnder, afterUnder, reply, plain, step}
 use Rattle.history.specs.Demand2.{Accepts, Differs}
 
 no-command : (q : Refusal) (c : Command) → Unlisted q ≡ One c → ⊥
@@ -91,11 +90,11 @@ by r c v = reply (afterBy r c v) (dueBy r c v)
 
 module _ (r : Card) (ok : isSound r ≡ true) where
   pub step-by : (c : Call) → step r c ≡ by r c (judged r c)
-  unfolding due after
+  unfolding dueUnder afterUnder
   step-by c = rw ok
 
   of-open : (d : List ℕ) → Change r (Open d) (by r (Open d) (judged r (Open d)))
-  unfolding judged
+  unfolding judgedUnder
   of-open d = go (isOpen (r .transaction .phase)) (eqb (length d) 65) (eqb (r .atc) 65535 || eqb (r .counters .session) 65535) refl
     where
       go : (o l f : Bool) → isOpen (r .transaction .phase) ≡ o
@@ -106,7 +105,7 @@ module _ (r : Card) (ok : isSound r ≡ true) where
       go false true false e = opened e
 
   of-answer : (x u : List ℕ) → Change r (IssuerAnswer x u) (by r (IssuerAnswer x u) (judged r (IssuerAnswer x u)))
-  unfolding judged
+  unfolding judgedUnder
   of-answer x u = go (isArqc (r .transaction .phase)) (eqb (length x) 8 && eqb (length u) 4) (same x (arpcFor r u)) refl
     where
       go : (o l f : Bool) → isArqc (r .transaction .phase) ≡ o
@@ -117,7 +116,7 @@ module _ (r : Card) (ok : isSound r ≡ true) where
       go true true true e = answered (arqc-open (r .transaction .phase) e)
 
   of-close : Change r Close (by r Close (judged r Close))
-  unfolding judged
+  unfolding judgedUnder
   of-close = go (isOpen (r .transaction .phase)) (r .transaction .spoilt) refl refl
     where
       go : (o s : Bool) → isOpen (r .transaction .phase) ≡ o → r .transaction .spoilt ≡ s
@@ -127,7 +126,7 @@ module _ (r : Card) (ok : isSound r ≡ true) where
       go true false e p = closed e p
 
   of-counters : Change r Counters (by r Counters (judged r Counters))
-  unfolding judged
+  unfolding judgedUnder
   of-counters = go (isOpen (r .transaction .phase))
     where
       go : (o : Bool) → Change r Counters (by r Counters (firstStruck (strikes (not o) PhaseWrong ∷ [])))
@@ -135,7 +134,7 @@ module _ (r : Card) (ok : isSound r ≡ true) where
       go true = counted
 
   of-withdraw : Change r Withdraw (by r Withdraw (judged r Withdraw))
-  unfolding judged
+  unfolding judgedUnder
   of-withdraw = withdrew
 
   module _ (h m : List ℕ) where
@@ -149,7 +148,7 @@ module _ (r : Card) (ok : isSound r ≡ true) where
     differs w f = rw (w .phase) (differed w f)
 
     of-script : Change r (Script h m) (by r (Script h m) (judged r (Script h m)))
-    unfolding judged judgedScript
+    unfolding judgedUnder judgedScript
     of-script =
         go (isOpen (r .transaction .phase)) (eqb (length h) 4) (hasShape m) (commandOf h (tagOf m) (lengthOf m)) (eqb (r .counters .failures) 65535) (codeFits (smiKey r) h m)
         (unread (commandOf h (tagOf m) (lengthOf m)) (read r h m .block)) refl refl refl refl refl refl refl

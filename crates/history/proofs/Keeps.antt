@@ -26,7 +26,7 @@ use Rattle.transaction.specs.Transaction.{isOpen, isUnmarked, none, pendingFits
 use Rattle.card.specs.declared.Card.{Card}
 use Rattle.card.specs.declared.Reply.{Reply}
 use Rattle.card.specs.Record.{sound, kept, withTransaction, withKept}
-use Rattle.card.specs.Calls.{Call, Withdraw, read, Order, newPin, newMark, orders, pend, pendAll, settled, judged, unread, strikes, firstStruck, due, after, plain}
+use Rattle.card.specs.Calls.{Call, Withdraw, read, Order, newPin, newMark, orders, pend, pendAll, settled, judgedUnder, unread, strikes, firstStruck, due, after, plain}
 use Rattle.card.specs.Personalise.{fresh, loadedBy, personalised}
 use Rattle.history.proofs.Own.{box, run}
 use Rattle.history.specs.Run.{Loading, personalisedWith}
@@ -192,7 +192,7 @@ idle-none t o e f =
 
 -- 01, Withdraw: "With none open it is accepted and changes nothing."
 pub withdrawn-idle : (r : Card) → sound r ≡ true → isOpen (r .transaction .phase) ≡ false → box r Withdraw ≡ plain r 0
-unfolding judged
+unfolding judgedUnder
 withdrawn-idle r s o =
     let p = parts r s in
     step-by r s Withdraw ∙ ap (λ (t : Transaction). plain (withTransaction r t) 0) (sym (idle-none (r .transaction) o (p .rested) (p .pended)))

@@ -7,7 +7,7 @@ use lib.Dec.{eqb}
 use borrow.Author.Tests.{eqb-true, eqb-false}
 use Rattle.card.specs.declared.Card.{Card}
 use Rattle.card.specs.Record.{sound}
-use Rattle.card.specs.Calls.{Call, Open, IssuerAnswer, Script, Close, Withdraw, Counters, Verdict, refuse, accept, judged, Answer, only, gives, dueBy, due}
+use Rattle.card.specs.Calls.{Call, Open, IssuerAnswer, Script, Close, Withdraw, Counters, Verdict, refuse, accept, judged, Answer, only, gives, dueBy, due, dueUnder}
 use Rattle.history.specs.Run.{Loading, AnyBox, ours}
 use Rattle.history.specs.Demand2.{Accepts}
 use Rattle.history.specs.Ledger.{afterCalls}
@@ -21,7 +21,7 @@ use Rattle.history.proofs.Strike.{strike-law}
 
 -- what is due: an accepted call gives what it gives, and a refused one its number only
 pub due-given : (s : Card) (c : Call) → due s c .number ≡ 0 → due s c ≡ gives s c
-unfolding due
+unfolding dueUnder
 due-given s c e = go (sound s) (judged s c) e
   where
     go : (b : Bool) (v : Verdict) → cond b (dueBy s c v) (only 1) .number ≡ 0 → cond b (dueBy s c v) (only 1) ≡ gives s c
@@ -38,7 +38,7 @@ gives-zero s Withdraw = refl
 gives-zero s Counters = refl
 
 pub due-refused : (s : Card) (c : Call) → (due s c .number ≡ 0 → ⊥) → due s c ≡ only (due s c .number)
-unfolding due
+unfolding dueUnder
 due-refused s c e = go (sound s) (judged s c) e
   where
     go : (b : Bool) (v : Verdict) → (cond b (dueBy s c v) (only 1) .number ≡ 0 → ⊥) → cond b (dueBy s c v) (only 1) ≡ only (cond b (dueBy s c v) (only 1) .number)

@@ -8,10 +8,10 @@ use borrow.Author.Tests.{eq-eqb, ne-eqb}
 use Rattle.octets.specs.Numbers.{leOctets, beOctets, be, le}
 use Rattle.octets.specs.Same.{same}
 use Rattle.octets.specs.Digits.{digits, pairs}
-use Rattle.shapes.specs.Length.{largest, largestShort, lengthField, fieldSays, lengthOf, placeOf}
-use Rattle.shapes.specs.Shape.{tagFits, codeHead, body, bodySize, tagOf, dataOf, bodyOf, codeIn, shape}
+use Rattle.shapes.specs.Length.{largest, largestShort, lengthField, fieldSays}
+use Rattle.shapes.specs.Shape.{lengthOf, lengthOfUnder, placeOfUnder, tagFits, codeHead, bodyUnder, bodySizeUnder, tagOf, dataOf, dataOfUnder, bodyOfUnder, codeInUnder, shape, shapeUnder}
 use Rattle.shapes.specs.Command.{headerOf, tagFor, lengthFor, isFor, listed, firstOf, commandOf}
-use Rattle.shapes.specs.Answers.{answer, shaped}
+use Rattle.shapes.specs.Answers.{answerUnder, shapedUnder}
 use Rattle.cipher.specs.Answers.{blockFits}
 use Rattle.keys.specs.CardNumber.{X, sixteen, Y}
 use Rattle.pin.specs.PinBlock.{pinFits, halves, fields, pinBlock, wellFormed, pinOf}
@@ -26,13 +26,13 @@ use Rattle.card.specs.Keys.{sessionKeyOf, smiKey, smcKey, counterKeyOf}
 use Rattle.shapes.specs.declared.command.Command.the-variants.{SetPin}
 use Rattle.shapes.specs.declared.command.Listed.the-variants.{One}
 use Rattle.message.specs.Code.{codeFits}
-use Rattle.card.specs.Calls.{IssuerAnswer, Script, plain, step, judgedScript, judged, arpcFor, cryptogramFor, countersFor, due, after}
+use Rattle.card.specs.Calls.{IssuerAnswer, Script, plain, step, judgedScript, judgedUnder, arpcFor, cryptogramFor, countersFor, dueUnder, afterUnder}
 use Rattle.card.specs.Personalise.{personalised}
 use Rattle.history.specs.Examples.{openAt, spoiltAt, Table}
 use Rattle.history.specs.Cases.{Cases}
 
 pub p-table : Table
-unfolding leOctets beOctets same digits pairs X sixteen Y pinFits halves fields pinBlock wellFormed pinOf blockFits writePin readBlock readPin width widths dataFields row place counterPlace issuerPlace kindPlace kindBits marked cardData largest largestShort lengthField fieldSays lengthOf placeOf tagFits codeHead body bodySize tagOf dataOf bodyOf codeIn shape answer shaped pendingFits restFits sound judged due after
+unfolding leOctets beOctets same digits pairs X sixteen Y pinFits halves fields pinBlock wellFormed pinOf blockFits writePin readBlock readPin width widths dataFields row place counterPlace issuerPlace kindPlace kindBits marked cardData largest largestShort lengthField fieldSays lengthOfUnder placeOfUnder tagFits codeHead bodyUnder bodySizeUnder tagOf dataOfUnder bodyOfUnder codeInUnder shapeUnder answerUnder shapedUnder pendingFits restFits sound judgedUnder dueUnder afterUnder
 p-table =
     record {
       P1 = refl;
@@ -59,16 +59,16 @@ p-table =
 
 differs-11 : (arpc csu : List ℕ) → length arpc ≡ 8 → length csu ≡ 4 → same arpc (arpcFor (openAt 0) csu) ≡ false
     → step (openAt 0) (IssuerAnswer arpc csu) ≡ plain (openAt 0) 11
-unfolding same digits pinFits pendingFits restFits sound judged due after
+unfolding same digits pinFits pendingFits restFits sound judgedUnder dueUnder afterUnder
 differs-11 arpc csu a b c = rw (eq-eqb _ _ a, eq-eqb _ _ b, c)
 
 unread-9 : (h m : List ℕ) → length h ≡ 4 → shape m ≡ true → commandOf h (tagOf m) (lengthOf m) ≡ One SetPin → codeFits (smiKey (openAt 0)) h m ≡ true
     → (decipherPin (smcKey (openAt 0)) (dataOf m) .code ≡ 0 → ⊥) → step (openAt 0) (Script h m) ≡ plain (spoiltAt 0 []) 9
-unfolding same digits pinFits pendingFits restFits sound judged judgedScript due after
+unfolding same digits pinFits pendingFits restFits sound judgedUnder judgedScript dueUnder afterUnder
 unread-9 h m a b c d e = rw (eq-eqb _ _ a, b, c, d, ne-eqb _ _ e)
 
 pub cases : Cases
-unfolding same leOctets beOctets be le lengthField fieldSays largest largestShort lengthOf placeOf tagFits codeHead body bodySize tagOf dataOf bodyOf codeIn shape headerOf tagFor lengthFor isFor listed firstOf commandOf digits halves wellFormed pinOf pinFits readBlock found noPin countersOf counterBlock kindNumber sessionSeed sessionKeyOf counterKeyOf pendingFits restFits sound judgedScript judged arpcFor cryptogramFor countersFor due after personalised
+unfolding same leOctets beOctets be le lengthField fieldSays largest largestShort lengthOfUnder placeOfUnder tagFits codeHead bodyUnder bodySizeUnder tagOf dataOfUnder bodyOfUnder codeInUnder shapeUnder headerOf tagFor lengthFor isFor listed firstOf digits halves wellFormed pinOf pinFits readBlock found noPin countersOf counterBlock kindNumber sessionSeed sessionKeyOf counterKeyOf pendingFits restFits sound judgedScript judgedUnder arpcFor cryptogramFor countersFor dueUnder afterUnder personalised
 cases =
     record {
       open-6-1 = refl;

@@ -10,8 +10,7 @@ use lib.ListN.{replicate}
 use Rattle.answers.specs.declared.Refusal.{Refusal}
 use Rattle.answers.specs.Refusals.{number}
 use Rattle.shapes.specs.declared.command.Listed.{Listed}
-use Rattle.shapes.specs.Length.{lengthOf}
-use Rattle.shapes.specs.Shape.{tagOf, dataOf}
+use Rattle.shapes.specs.Shape.{lengthOf, tagOf, dataOf}
 use Rattle.shapes.specs.Command.{commandOf}
 use Rattle.derive.specs.Derivation.{derived, cardLabel}
 use Rattle.pin.specs.Answers.{decipherPin}

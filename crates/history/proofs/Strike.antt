@@ -11,8 +11,7 @@ use Rattle.answers.specs.Refusals.{number}
 use Rattle.octets.specs.Same.{same}
 use Rattle.shapes.specs.declared.command.Listed.{Listed}
 use Rattle.shapes.specs.declared.command.Listed.the-variants.{One, Unlisted}
-use Rattle.shapes.specs.Length.{lengthOf}
-use Rattle.shapes.specs.Shape.{tagOf, shape}
+use Rattle.shapes.specs.Shape.{lengthOf, tagOf, shape}
 use Rattle.shapes.specs.Command.{commandOf}
 use Rattle.transaction.specs.declared.PendingMark.the-variants.{Nothing}
 use Rattle.transaction.specs.declared.Transaction.{Transaction}
@@ -21,7 +20,7 @@ use Rattle.card.specs.declared.Card.{Card}
 use Rattle.card.specs.declared.Reply.{Reply}
 use Rattle.card.specs.Record.{sound, withTransaction}
 use Rattle.card.specs.Keys.{sessionKeyOf, smiKey, smcKey, counterKeyOf}
-use Rattle.card.specs.Calls.{Call, Open, IssuerAnswer, Script, Close, Withdraw, Counters, Verdict, refuse, accept, read, judgedScript, judged, arpcFor, cryptogramFor, countersFor}
+use Rattle.card.specs.Calls.{Call, Open, IssuerAnswer, Script, Close, Withdraw, Counters, Verdict, refuse, accept, read, judgedScript, judged, judgedUnder, arpcFor, cryptogramFor, countersFor}
 use Rattle.card.specs.Calls.{only, Order, newPin, newMark, orders, pend, pendAll, refused, reply, plain}
 use Rattle.history.proofs.Own.{any, box, entry, history, run}
 use Rattle.history.specs.Run.{Loading, Entry, did, History, callsOf, frame, isCommand}
@@ -90,7 +89,7 @@ module _ (c : Call) (n4 : eqb (frame c) 4 ≡ false) (n5 : eqb (frame c) 5 ≡ f
       go Counters accept a b = refl
 
   same-verdict : (r : Card) → judged r c ≡ judged (bare r) c
-  unfolding judged judgedScript arpcFor sessionKeyOf smiKey smcKey
+  unfolding judgedUnder judgedScript arpcFor sessionKeyOf smiKey smcKey
   same-verdict r = go c n4
     where
       go : (x : Call) → eqb (frame x) 4 ≡ false → judged r x ≡ judged (bare r) x
@@ -167,7 +166,7 @@ history-append r (c ∷ a) b = ap (λ (t : History). entry c (box r c) ∷ t) (h
 
 -- a withdrawal forgets what was pending
 forgets : (s q : Card) → sound s ≡ true → sound q ≡ true → bare s ≡ bare q → box s Withdraw ≡ box q Withdraw
-unfolding judged
+unfolding judgedUnder
 forgets s q ss sq b = step-by s ss Withdraw ∙ ap (λ (x : Card). plain (withTransaction x none) 0) b ∙ sym (step-by q sq Withdraw)
 
 strike-by : (test : Entry → Bool) → ((e : Entry) → test e ≡ true → harmless e ≡ true)

@@ -15,8 +15,7 @@ use Rattle.shapes.specs.declared.command.Command.{Command}
 use Rattle.shapes.specs.declared.command.Command.the-variants.{SetPin, SetMark, ClearMark}
 use Rattle.shapes.specs.declared.command.Listed.{Listed}
 use Rattle.shapes.specs.declared.command.Listed.the-variants.{One}
-use Rattle.shapes.specs.Length.{placeOf}
-use Rattle.shapes.specs.Shape.{tagFits}
+use Rattle.shapes.specs.Shape.{placeOf, tagFits}
 use Rattle.shapes.specs.Command.{headerOf, tagFor, lengthFor, isFor, listed, firstOf, commandOf}
 use Rattle.gost.specs.Gost.{subkeys}
 use Rattle.cipher.specs.Code.{codeOf}
@@ -37,7 +36,7 @@ use Rattle.card.specs.declared.Card.{Card}
 use Rattle.card.specs.declared.Reply.{Reply}
 use Rattle.card.specs.Record.{sound, kept, withTransaction}
 use Rattle.card.specs.Keys.{sessionKeyOf, smiKey}
-use Rattle.card.specs.Calls.{Call, Open, Script, Close, Counters, Verdict, accept, read, judged, Answer, grown, cryptogramFor, gives, newMark, orders, pend, pendAll, settled, accepted, due, reply, plain, step}
+use Rattle.card.specs.Calls.{Call, Open, Script, Close, Counters, Verdict, accept, read, judgedUnder, Answer, grown, cryptogramFor, gives, newMark, orders, pend, pendAll, settled, accepted, due, reply, plain, step}
 use Rattle.card.specs.Personalise.{personalised}
 use Rattle.history.specs.Run as runs
 use Rattle.history.specs.Run.{Loading, Box, answerOf, boxed}
@@ -98,7 +97,7 @@ made r h e =
     taken _ _ _ _ _ _ (open-made (smiKey r) h 0x81 [] (rw (eq-eqb _ _ (length-smi r), eq-eqb _ _ e)) refl zero-le)
 
 is-listed : {c : Command} → Marks c → commandOf (headerOf c) 0x81 0 ≡ One c
-unfolding commandOf firstOf listed isFor headerOf tagFor lengthFor same
+unfolding firstOf listed isFor headerOf tagFor lengthFor same
 is-listed sets = refl
 is-listed clears = refl
 
@@ -142,12 +141,12 @@ module _ (r : Card) (s : sound r ≡ true) (o : isOpen (r .transaction .phase) �
 
 -- a close of an open transaction that is not spoilt
 closes-well : (r : Card) → sound r ≡ true → isOpen (r .transaction .phase) ≡ true → r .transaction .spoilt ≡ false → step r Close ≡ plain (accepted r Close) 0
-unfolding judged
+unfolding judgedUnder
 closes-well r s o p = step-by r s Close ∙ rw (o, p)
 
 -- the fresh record, opened, then blocked
 opened-with : (d : List ℕ) → length d ≡ 65 → step first-card (Open d) ≡ reply (accepted first-card (Open d)) (gives first-card (Open d))
-unfolding judged countersOf be le
+unfolding judgedUnder countersOf be le
 opened-with d l = step-by first-card first-sound (Open d) ∙ rw (eq-eqb _ _ l)
 
 abbrev opened-card : Card

@@ -7,8 +7,7 @@ use lib.ListN.{length, replicate}
 use Rattle.octets.specs.Same.{same}
 use Rattle.shapes.specs.declared.command.Command.the-variants.{SetPin}
 use Rattle.shapes.specs.declared.command.Listed.the-variants.{One}
-use Rattle.shapes.specs.Length.{lengthOf}
-use Rattle.shapes.specs.Shape.{tagOf, dataOf, shape}
+use Rattle.shapes.specs.Shape.{lengthOf, tagOf, dataOf, shape}
 use Rattle.shapes.specs.Command.{commandOf}
 use Rattle.gost.specs.Gost.{subkeys, encipher}
 use Rattle.hash.specs.Hash.{hash256}

@@ -9,8 +9,7 @@ use Rattle.octets.specs.Numbers.{Octets, leOctets}
 use Rattle.shapes.specs.declared.command.Command.{Command}
 use Rattle.shapes.specs.declared.command.Command.the-variants.{SetPin}
 use Rattle.shapes.specs.declared.command.Listed.the-variants.{One}
-use Rattle.shapes.specs.Length.{lengthOf}
-use Rattle.shapes.specs.Shape.{tagOf, dataOf, shape as hasShape}
+use Rattle.shapes.specs.Shape.{lengthOf, tagOf, dataOf, shape as hasShape}
 use Rattle.shapes.specs.Command.{commandOf}
 use Rattle.derive.specs.Derivation.{derived, cardLabel}
 use Rattle.pin.specs.Answers.{decipherPin}

@@ -5,8 +5,7 @@ use mathlib.Core.Bool.{Bool, true, false, not, _&&_, _||_, cond}
 use mathlib.Core.List.{List, [], _∷_, _++_}
 use lib.Dec.{eqb}
 use lib.ListN.{replicate}
-use Rattle.shapes.specs.Length.{lengthOf}
-use Rattle.shapes.specs.Shape.{tagOf, dataOf}
+use Rattle.shapes.specs.Shape.{lengthOf, tagOf, dataOf}
 use Rattle.shapes.specs.Command.{commandOf}
 use Rattle.derive.specs.Derivation.{derived, cardLabel}
 use Rattle.pin.specs.declared.Counters.{Counters as CounterStruct}

@@ -5,10 +5,11 @@ use mathlib.Core.List.{List, [], _∷_, _++_}
 use lib.Dec.{eqb, leb}
 use lib.ListN.{length, getD}
 use Rattle.octets.specs.Digits.{hexOctet, hexValue}
+use Rattle.shapes.specs.Rules.{Rules, present}
 
 -- "the longest trace line 538 digits" (Wish 1); more is 13
 abbrev pub longest : ℕ
-longest = 538
+longest = present .longest
 
 -- of a longer line one sign more is kept
 abbrev pub keptSigns : ℕ
@@ -16,7 +17,7 @@ keptSigns = longest + 1
 
 -- "a first byte above 06 .. is 13"
 abbrev pub lastFrame : ℕ
-lastFrame = 6
+lastFrame = present .lastFrame
 
 -- "a last line without one counts unless empty"
 abbrev pub lastLine : List ℕ → List (List ℕ)
@@ -51,8 +52,11 @@ unfoldable pub hexadecimal : List ℕ → Bool
 hexadecimal l = not (eqb (length l) 0) && (eqb (length l % 2) 0 && legible l)
 
 -- "An empty line, an odd count, a foreign sign, a first byte above 06 or more than 280 digits is 13.", now 538
-unfoldable pub readable : List ℕ → Bool
-readable l = leb (length l) longest && (hexadecimal l && leb (getD (octetsOf l) 0 0) lastFrame)
+unfoldable pub readableUnder : Rules → List ℕ → Bool
+readableUnder k l = leb (length l) (k .longest) && (hexadecimal l && leb (getD (octetsOf l) 0 0) (k .lastFrame))
+
+abbrev pub readable : List ℕ → Bool
+readable = readableUnder present
 
 -- the digits of octets, and the line that they make
 unfoldable pub hexText : List ℕ → List ℕ

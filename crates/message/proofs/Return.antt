@@ -10,13 +10,13 @@ use lib.ListN.{length, take, drop, length-append}
 use Rattle.octets.specs.Same.{same}
 use Rattle.octets.proofs.SameLaws.{same-refl, same-true}
 use Rattle.shapes.specs.declared.Opened.the-variants.{Data}
-use Rattle.shapes.specs.Length.{largest, lengthOf, placeOf}
-use Rattle.shapes.specs.Shape.{tagFits, body, bodySize, sizeOf, tagOf, dataOf, bodyOf, codeIn, shape}
-use Rattle.shapes.specs.Answers.{answer}
+use Rattle.shapes.specs.Length.{largest}
+use Rattle.shapes.specs.Shape.{lengthOf, placeOf, tagFits, body, bodySizeUnder, sizeOf, sizeOfUnder, tagOf, dataOf, dataOfUnder, bodyOf, codeIn, shape, shapeUnder}
+use Rattle.shapes.specs.Answers.{answer, answerUnder}
 use Rattle.shapes.proofs.ShapeLaws.{length-body, length-read, tag-read, data-read, body-read, code-read, shape-parts}
 use Rattle.cipher.proofs.CodeLaws.{length-codeOf}
-use Rattle.message.specs.Code.{codeFor, message, given, codeFits}
-use Rattle.message.specs.Answers.{openNumber, opened, laid, wrapNumber, Written, wrapped}
+use Rattle.message.specs.Code.{codeFor, message, messageUnder, given, codeFits, codeFitsUnder}
+use Rattle.message.specs.Answers.{openNumberUnder, opened, openedUnder, laid, wrapNumber, Written, wrapped, wrappedUnder}
 use Rattle.message.proofs.LaidLaws.{laid-there}
 use Rattle.message.proofs.WrapLaws.{accepted, wrap-fits, wrap-accepted}
 
@@ -25,12 +25,12 @@ unfolding codeFor
 length-code key header m = length-codeOf _ _
 
 length-message : (key header : List ℕ) (tag : ℕ) (d : List ℕ) → length (message key header tag d) ≡ sizeOf (length d)
-unfolding message sizeOf
+unfolding messageUnder sizeOfUnder
 length-message key header tag d =
     length-append (body tag d) (codeFor key header (body tag d)) ∙ ap₂ (λ (x y : ℕ). x + y) (length-body tag d) (length-code key header (body tag d))
 
 message-size : (key header : List ℕ) (tag : ℕ) (d : List ℕ) → length (message key header tag d) ≡ placeOf (length d) + length d + 6
-unfolding sizeOf bodySize
+unfolding sizeOfUnder bodySizeUnder
 message-size key header tag d = let l = length-message key header tag d in omega arith
 
 -- a message that is made has its shape and its code
@@ -42,11 +42,11 @@ module _ (key header : List ℕ) (tag : ℕ) (d : List ℕ) (g : given key heade
   c = codeFor key header (body tag d)
 
   parts : (lengthOf m ≡ length d) × (tagOf m ≡ tag) × (dataOf m ≡ d) × (bodyOf m ≡ body tag d) × (codeIn m ≡ c)
-  unfolding m message
+  unfolding m messageUnder
   parts = (length-read tag d c l, tag-read tag d c l, data-read tag d c l, body-read tag d c l, code-read tag d c l)
 
   made-shape : shape m ≡ true
-  unfolding shape
+  unfolding shapeUnder
   made-shape =
       let p = parts in
       let s : same (bodyOf m) (body (tagOf m) (dataOf m)) ≡ true = rw (p .1, p .2, p .3) (same-refl (body tag d)) in
@@ -54,14 +54,14 @@ module _ (key header : List ℕ) (tag : ℕ) (d : List ℕ) (g : given key heade
       simp (ap tagFits (p .1) ∙ t, le-leb (lengthOf m) largest (omega (arith, p .0)), s, eq-eqb _ _ n)
 
   made-code : codeFits key header m ≡ true
-  unfolding codeFits
+  unfolding codeFitsUnder
   made-code =
       let p = parts in
       let s : same (codeIn m) (codeFor key header (bodyOf m)) ≡ true = rw (p .3, p .4) (same-refl c) in
       simp (g, made-shape, s)
 
   pub open-made : opened key header (message key header tag d) ≡ Data tag (placeOf (length d)) (length d)
-  unfolding opened openNumber answer m
+  unfolding openedUnder openNumberUnder answerUnder m
   open-made =
       let p = parts in
       simp (g, made-shape, made-code, p .0, p .1)
@@ -73,7 +73,7 @@ written key header tag d b place = take (sizeOf (length d)) (drop place (wrapped
 -- data that wrapping takes
 module _ (key header : List ℕ) (tag : ℕ) (d b : List ℕ) (place : ℕ) (e : wrapped key header tag d b place .code ≡ 0) where
   number-zero : wrapNumber key header tag (length d) (length b) place ≡ 0
-  unfolding wrapped
+  unfolding wrappedUnder
   number-zero = go (eqb (wrapNumber key header tag (length d) (length b) place) 0) refl e
     where
       go : (x : Bool) → eqb (wrapNumber key header tag (length d) (length b) place) 0 ≡ x
@@ -83,7 +83,7 @@ module _ (key header : List ℕ) (tag : ℕ) (d b : List ℕ) (place : ℕ) (e :
       go false f h = h
 
   written-message : written key header tag d b place ≡ message key header tag d
-  unfolding sizeOf bodySize
+  unfolding sizeOfUnder bodySizeUnder
   written-message =
       let a = accepted key header tag (length d) (length b) place number-zero in
       let m = message key header tag d in
@@ -92,7 +92,7 @@ module _ (key header : List ℕ) (tag : ℕ) (d b : List ℕ) (place : ℕ) (e :
       ∙ laid-there b place m (omega arith)
 
   data-wrapped : take (length d) (drop (placeOf (length d)) (written key header tag d b place)) ≡ d
-  unfolding dataOf message
+  unfolding dataOfUnder messageUnder
   data-wrapped =
       let a = accepted key header tag (length d) (length b) place number-zero in
       let c = codeFor key header (body tag d) in
@@ -118,7 +118,7 @@ pub record Taken (key header m : List ℕ) (tag place n : ℕ) : Type 0 where
   pub the-length : n ≡ lengthOf m
 
 pub taken : (key header m : List ℕ) (tag place n : ℕ) → opened key header m ≡ Data tag place n → Taken key header m tag place n
-unfolding opened openNumber answer
+unfolding openedUnder openNumberUnder answerUnder
 taken key header m tag place n e = go (given key header) refl (shape m) refl (codeFits key header m) refl e
   where
     go : (x : Bool) → given key header ≡ x → (y : Bool) → shape m ≡ y → (z : Bool) → codeFits key header m ≡ z
@@ -129,7 +129,7 @@ taken key header m tag place n e = go (given key header) refl (shape m) refl (co
     go false f y g z h w = let z : _≡_ {A = ℕ} 0 1 = cc in absurd (omega arith)
 
 code-there : (key header m : List ℕ) → codeFits key header m ≡ true → codeIn m ≡ codeFor key header (bodyOf m)
-unfolding codeFits
+unfolding codeFitsUnder
 code-there key header m e =
     let a = and-eq-true-iff (given key header) _ .0 e in
     let b = and-eq-true-iff (shape m) _ .0 (a .1) in
@@ -138,7 +138,7 @@ code-there key header m e =
 -- wrapping what opening took, at any place of any buffer into which it fits, lays its bytes there
 pub wrap-opened : (key header m : List ℕ) (tag place n : ℕ) → opened key header m ≡ Data tag place n → (b : List ℕ) (p : ℕ) → p + length m ≤ length b
     → wrapped key header tag (take n (drop place m)) b p ≡ record { code = 0; buffer = laid b p m }
-unfolding dataOf message
+unfolding dataOfUnder messageUnder
 wrap-opened key header m tag place n e b p l =
     let t = taken key header m tag place n e in
     let q = shape-parts m (t .shaped-so) in

@@ -12,12 +12,12 @@ use lib.Dec.{leb}
 use lib.ListN.{length, getD, take, drop, set}
 use lib.Seq.{paste, sets-eq, take-length, take-take}
 use Rattle.octets.proofs.Parts.{elements, elements-all}
-use Rattle.shapes.specs.Length.{largest, largestShort, lengthField, placeOf}
-use Rattle.shapes.specs.Shape.{tagFits, codeHead, body, bodySize, sizeOf}
+use Rattle.shapes.specs.Length.{largest, largestShort, lengthField}
+use Rattle.shapes.specs.Shape.{placeOf, tagFits, codeHead, body, bodyUnder, bodySize, bodySizeUnder, sizeOf, sizeOfUnder}
 use Rattle.shapes.proofs.LengthLaws.{field-short, field-long, place-short, place-long, largest-small, place-small, length-head}
 use Rattle.shapes.proofs.ShapeLaws.{length-body}
-use Rattle.message.specs.Code.{codeFor, message, given}
-use Rattle.message.specs.Answers.{laid, wrapNumber, wrapped, Written, Wrote}
+use Rattle.message.specs.Code.{codeFor, message, messageUnder, given}
+use Rattle.message.specs.Answers.{laid, wrapNumber, wrapNumberUnder, wrapped, wrappedUnder, Written, Wrote}
 use Rattle.message.proofs.LaidLaws.{length-laid, lent-length, laid-there, laid-laid, laid-lent}
 
 -- the stores of a tag and a length field
@@ -55,29 +55,29 @@ data-stored b p d h =
 
 module _ (key header : List ℕ) (tag n size place : ℕ) where
   pub wrap-given : (g : Bool) → g ≡ given key header → not g ≡ true → 1 ≡ wrapNumber key header tag n size place
-  unfolding wrapNumber
+  unfolding wrapNumberUnder
   wrap-given g e h = simp (sym e ∙ not-true g h)
 
   pub wrap-tag : (t : Bool) → t ≡ tagFits tag → not t ≡ true → 1 ≡ wrapNumber key header tag n size place
-  unfolding wrapNumber
+  unfolding wrapNumberUnder
   wrap-tag t e h = simp (sym e ∙ not-true t h, and-false)
 
   pub wrap-most : largest < n → 1 ≡ wrapNumber key header tag n size place
-  unfolding wrapNumber
+  unfolding wrapNumberUnder
   wrap-most h = simp (lt-leb _ _ h, and-false)
 
   module _ (g : Bool) (e : g ≡ given key header) (h : not g ≡ false) (t : Bool) (f : t ≡ tagFits tag) (i : not t ≡ false) (l : n ≤ largest) where
     pub wrap-place : size < place → 3 ≡ wrapNumber key header tag n size place
-    unfolding wrapNumber
+    unfolding wrapNumberUnder
     wrap-place x = simp (sym e ∙ not-false g h, sym f ∙ not-false t i, le-leb _ _ l, lt-leb (place + sizeOf n) size (omega arith))
 
     module _ (x : place ≤ size) (p : ℕ) (q : p ≡ placeOf n) where
       pub wrap-room : size - place < p + n + 6 → 3 ≡ wrapNumber key header tag n size place
-      unfolding wrapNumber sizeOf bodySize
+      unfolding wrapNumberUnder sizeOfUnder bodySizeUnder
       wrap-room y = simp (sym e ∙ not-false g h, sym f ∙ not-false t i, le-leb _ _ l, lt-leb (place + (placeOf n + n + 2 + 4)) size (omega arith))
 
       pub wrap-fits : p + n + 6 ≤ size - place → 0 ≡ wrapNumber key header tag n size place
-      unfolding wrapNumber sizeOf bodySize
+      unfolding wrapNumberUnder sizeOfUnder bodySizeUnder
       wrap-fits y = simp (sym e ∙ not-false g h, sym f ∙ not-false t i, le-leb _ _ l, le-leb (place + (placeOf n + n + 2 + 4)) size (omega arith))
 
 -- what 0 says
@@ -90,7 +90,7 @@ pub record Room (key header : List ℕ) (tag n size place : ℕ) : Type 0 where
   pub small-length : n ≤ 255
 
 pub accepted : (key header : List ℕ) (tag n size place : ℕ) → wrapNumber key header tag n size place ≡ 0 → Room key header tag n size place
-unfolding wrapNumber sizeOf bodySize
+unfolding wrapNumberUnder sizeOfUnder bodySizeUnder
 accepted key header tag n size place e =
     go (given key header && (tagFits tag && leb n largest)) refl (leb (place + (placeOf n + n + 2 + 4)) size) refl e
   where
@@ -114,14 +114,14 @@ accepted key header tag n size place e =
 
 module _ (key header : List ℕ) (tag : ℕ) (d b : List ℕ) (place : ℕ) where
   pub wrap-refused : (r : ℕ) → r ≡ wrapNumber key header tag (length d) (length b) place → (r ≡ 0 → ⊥) → Wrote (wrapped key header tag d b place) r b
-  unfolding wrapped
+  unfolding wrappedUnder
   wrap-refused r e h =
       let w = ne-eqb (wrapNumber key header tag (length d) (length b) place) 0 (λ z. h (e ∙ z)) in
       record { code = simp w e; buffer = simp w }
 
   pub wrap-accepted : wrapNumber key header tag (length d) (length b) place ≡ 0
       → wrapped key header tag d b place ≡ record { code = 0; buffer = laid b place (message key header tag d) }
-  unfolding wrapped
+  unfolding wrappedUnder
   wrap-accepted e = simp (eq-eqb _ _ e)
 
   -- the three writers, each lent the buffer from the place on
@@ -165,7 +165,7 @@ module _ (key header : List ℕ) (tag : ℕ) (d b : List ℕ) (place : ℕ) wher
 
       module _ (y : List ℕ) (ey : y ≡ laid (take (length (first x) - place) (drop place (first x))) (placeOf (length d)) (d ++ codeHead)) where
         data-laid : second x y ≡ laid b place (body tag d)
-        unfolding body
+        unfolding bodyUnder
         data-laid =
             let f = tag ∷ lengthField (length d) in
             let a = accepted key header tag (length d) (length b) place z in
@@ -177,7 +177,7 @@ module _ (key header : List ℕ) (tag : ℕ) (d b : List ℕ) (place : ℕ) wher
             ∙ ap (laid b place) (sym (append-assoc f d codeHead))
 
         pub length-second : length (second x y) ≡ length b
-        unfolding bodySize
+        unfolding bodySizeUnder
         length-second =
             let a = accepted key header tag (length d) (length b) place z in
             let n : length (body tag d) ≡ placeOf (length d) + length d + 2 = length-body tag d in
@@ -195,7 +195,7 @@ module _ (key header : List ℕ) (tag : ℕ) (d b : List ℕ) (place : ℕ) wher
 
         -- what the code is made over
         body-there : take (bodySize (length d)) (take (length (second x y) - place) (drop place (second x y))) ≡ body tag d
-        unfolding bodySize
+        unfolding bodySizeUnder
         body-there =
             let a = accepted key header tag (length d) (length b) place z in
             let n : length (body tag d) ≡ placeOf (length d) + length d + 2 = length-body tag d in
@@ -207,7 +207,7 @@ module _ (key header : List ℕ) (tag : ℕ) (d b : List ℕ) (place : ℕ) wher
         pub wrap-done : (w : List ℕ)
             → w ≡ laid (take (length (second x y) - place) (drop place (second x y))) (bodySize (length d)) (codeFor key header (take (bodySize (length d)) (take (length (second x y) - place) (drop place (second x y)))))
             → Wrote (wrapped key header tag d b place) 0 (putMid place (length (second x y) - place) (second x y) w)
-        unfolding message bodySize
+        unfolding messageUnder bodySizeUnder
         wrap-done w ew =
             let a = accepted key header tag (length d) (length b) place z in
             let m = body tag d in

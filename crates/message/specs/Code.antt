@@ -6,7 +6,8 @@ use lib.Dec.{eqb}
 use lib.ListN.{length, replicate}
 use Rattle.octets.specs.Same.{same}
 use Rattle.octets.specs.Lengths.{keyFits}
-use Rattle.shapes.specs.Shape.{body, bodyOf, codeIn, shape}
+use Rattle.shapes.specs.Rules.{Rules, present}
+use Rattle.shapes.specs.Shape.{bodyUnder, bodyOfUnder, codeInUnder, shapeUnder}
 use Rattle.gost.specs.Gost.{subkeys}
 use Rattle.cipher.specs.Code.{codeOf}
 
@@ -23,13 +24,19 @@ unfoldable pub codeFor : List ℕ → List ℕ → List ℕ → List ℕ
 codeFor key header msg = codeOf (subkeys 8 key) (X header ++ Y msg)
 
 -- MSG, IM: "the final form of the message"
-unfoldable pub message : List ℕ → List ℕ → ℕ → List ℕ → List ℕ
-message key header tag d = body tag d ++ codeFor key header (body tag d)
+unfoldable pub messageUnder : Rules → List ℕ → List ℕ → ℕ → List ℕ → List ℕ
+messageUnder k key header tag d = bodyUnder k tag d ++ codeFor key header (bodyUnder k tag d)
+
+abbrev pub message : List ℕ → List ℕ → ℕ → List ℕ → List ℕ
+message = messageUnder present
 
 -- 01: a key is 32 bytes, a header 4
 unfoldable pub given : List ℕ → List ℕ → Bool
 given key header = keyFits key && eqb (length header) 4
 
 -- 4.1.2: the code is computed anew and compared
-unfoldable pub codeFits : List ℕ → List ℕ → List ℕ → Bool
-codeFits key header m = given key header && (shape m && same (codeIn m) (codeFor key header (bodyOf m)))
+unfoldable pub codeFitsUnder : Rules → List ℕ → List ℕ → List ℕ → Bool
+codeFitsUnder k key header m = given key header && (shapeUnder k m && same (codeInUnder k m) (codeFor key header (bodyOfUnder k m)))
+
+abbrev pub codeFits : List ℕ → List ℕ → List ℕ → Bool
+codeFits = codeFitsUnder present

@@ -11,15 +11,15 @@ use lib.Seq.{length-take-le}
 use Rattle.octets.specs.Same.{same}
 use Rattle.shapes.specs.declared.Opened.{Opened}
 use Rattle.shapes.specs.declared.Opened.the-variants.{Data, Refused}
-use Rattle.shapes.specs.Length.{largest, lengthOf, placeOf}
-use Rattle.shapes.specs.Shape.{tagFits, codeHead, tagOf, shape}
-use Rattle.shapes.specs.Answers.{openedNumber, openedValues, answer, shaped, Tells}
+use Rattle.shapes.specs.Length.{largest}
+use Rattle.shapes.specs.Shape.{lengthOf, placeOf, tagFits, codeHead, tagOf, shape}
+use Rattle.shapes.specs.Answers.{openedNumber, openedValues, answer, answerUnder, shaped, shapedUnder, Tells}
 use Rattle.shapes.proofs.LengthLaws.{largest-small, place-small}
 use Rattle.shapes.proofs.ShapeLaws.{Good, good-shape, shape-good}
 
 -- an answer has its number, and on 0 its values
 pub number-answer : (r : ℕ) (m : List ℕ) → openedNumber (answer r m) ≡ r
-unfolding openedNumber answer
+unfolding openedNumber answerUnder
 number-answer r m = go (eqb r 0) refl
   where
     go : (b : Bool) → eqb r 0 ≡ b → openedNumber (cond b (Data (tagOf m) (placeOf (lengthOf m)) (lengthOf m)) (Refused r)) ≡ r
@@ -27,11 +27,11 @@ number-answer r m = go (eqb r 0) refl
     go false e = refl
 
 pub values-answer : (m : List ℕ) → openedValues (answer 0 m) ≡ tagOf m ∷ placeOf (lengthOf m) ∷ lengthOf m ∷ []
-unfolding openedValues answer
+unfolding openedValues answerUnder
 values-answer m = refl
 
 values-so : (r : ℕ) (m : List ℕ) → openedValues (answer r m) ≡ cond (eqb r 0) (tagOf m ∷ placeOf (lengthOf m) ∷ lengthOf m ∷ []) []
-unfolding openedValues answer
+unfolding openedValues answerUnder
 values-so r m = go (eqb r 0)
   where
     go : (b : Bool) → openedValues (cond b (Data (tagOf m) (placeOf (lengthOf m)) (lengthOf m)) (Refused r)) ≡ cond b (tagOf m ∷ placeOf (lengthOf m) ∷ lengthOf m ∷ []) []
@@ -42,19 +42,19 @@ pub tells : (o : Opened) (n : ℕ) (m : List ℕ) → o ≡ answer n m → {r : 
 tells o n m a e = record { is = e; its-number = ap openedNumber (e ∙ a) ∙ number-answer n m; its-values = ap openedValues (e ∙ a) ∙ values-so n m }
 
 pub tells-shaped : (m : List ℕ) {r : Opened} → r ≡ shaped m → Tells r (shaped m) (cond (shape m) 0 4) m
-unfolding shaped
+unfolding shapedUnder
 tells-shaped m e = tells (shaped m) (cond (shape m) 0 4) m refl e
 
 pub number-shaped : (m : List ℕ) → openedNumber (shaped m) ≡ cond (shape m) 0 4
-unfolding shaped
+unfolding shapedUnder
 number-shaped m = number-answer (cond (shape m) 0 4) m
 
 pub shaped-bad : (m : List ℕ) → shape m ≡ false → Refused 4 ≡ shaped m
-unfolding shaped answer
+unfolding shapedUnder answerUnder
 shaped-bad m e = simp e
 
 pub shaped-good : (m : List ℕ) → shape m ≡ true → Data (tagOf m) (placeOf (lengthOf m)) (lengthOf m) ≡ shaped m
-unfolding shaped answer
+unfolding shapedUnder answerUnder
 shaped-good m e = simp e
 
 -- one law for each way out of the test of a shape

@@ -36,21 +36,21 @@ module _ (k : Command) (header : List ℕ) (tag n : ℕ) where
 
 module _ (header : List ℕ) (tag n : ℕ) (a : Bool) (e : a ≡ isFor SetPin header tag n) where
   pub sets-pin : a ≡ true → One SetPin ≡ commandOf header tag n
-  unfolding commandOf firstOf listed
+  unfolding firstOf listed
   sets-pin x = simp (sym e ∙ x)
 
   module _ (x : a ≡ false) (b : Bool) (f : b ≡ isFor SetMark header tag n) where
     pub sets-mark : b ≡ true → One SetMark ≡ commandOf header tag n
-    unfolding commandOf firstOf listed
+    unfolding firstOf listed
     sets-mark y = simp (sym e ∙ x, sym f ∙ y)
 
     module _ (y : b ≡ false) (c : Bool) (g : c ≡ isFor ClearMark header tag n) where
       pub clears-mark : c ≡ true → One ClearMark ≡ commandOf header tag n
-      unfolding commandOf firstOf listed
+      unfolding firstOf listed
       clears-mark z = simp (sym e ∙ x, sym f ∙ y, sym g ∙ z)
 
       pub none-listed : c ≡ false → Unlisted NotListed ≡ commandOf header tag n
-      unfolding commandOf firstOf listed
+      unfolding firstOf listed
       none-listed z = simp (sym e ∙ x, sym f ∙ y, sym g ∙ z)
 
 -- header, tag and length of a command
@@ -66,7 +66,7 @@ is-its k header tag n e =
 
 -- a command that is found is the one that the bytes say
 pub listed-its : (header : List ℕ) (tag n : ℕ) (k : Command) → commandOf header tag n ≡ One k → Its k header tag n
-unfolding commandOf firstOf listed
+unfolding firstOf listed
 listed-its header tag n k e = go (isFor SetPin header tag n) refl (isFor SetMark header tag n) refl (isFor ClearMark header tag n) refl e
   where
     found : (j : Command) → isFor j header tag n ≡ true → One j ≡ One k → Its k header tag n
@@ -81,7 +81,7 @@ listed-its header tag n k e = go (isFor SetPin header tag n) refl (isFor SetMark
 
 -- and each is found by its bytes
 pub its-listed : (k : Command) → commandOf (headerOf k) (tagFor k) (lengthFor k) ≡ One k
-unfolding commandOf firstOf listed isFor headerOf tagFor lengthFor same
+unfolding firstOf listed isFor headerOf tagFor lengthFor same
 its-listed SetPin = refl
 its-listed SetMark = refl
 its-listed ClearMark = refl
@@ -97,7 +97,6 @@ why-first (c ∷ cs) header tag n q e = go (isFor c header tag n) (why-first cs 
     go false f w = f w
 
 pub why-unlisted : (header : List ℕ) (tag n : ℕ) (q : Refusal) → commandOf header tag n ≡ Unlisted q → q ≡ NotListed
-unfolding commandOf
 why-unlisted header tag n q e = why-first listed header tag n q e
 
 number-first : (cs : List Command) (header : List ℕ) (tag n : ℕ) → refusal (firstOf cs header tag n) ≡ numberFor cs header tag n
@@ -111,7 +110,6 @@ number-first (c ∷ cs) header tag n = go (isFor c header tag n) (number-first c
     go false e = e
 
 pub lists : {r : Listed} {header : List ℕ} {tag n : ℕ} → r ≡ commandOf header tag n → Lists r header tag n
-unfolding commandOf
 lists {r} {header} {tag} {n} e = record { is = e; its-number = ap refusal e ∙ number-first listed header tag n }
 
 -- the numbers: 0 of a command, 5 where header, tag and length are no command's

@@ -7,8 +7,8 @@ use native.Mathlib.Omega.{arith}
 use lib.Dec.{lit≤}
 use lib.ListN.{length, getD, replicate}
 use Rattle.shapes.specs.declared.Opened.the-variants.{Refused}
-use Rattle.shapes.specs.Length.{largest, largestShort, lengthField, fieldSays, lengthOf, placeOf}
-use Rattle.shapes.specs.Shape.{tagFits, codeHead, body, bodySize, tagOf, dataOf, bodyOf, codeIn, sizeOf, shape}
+use Rattle.shapes.specs.Length.{largest, largestShort, lengthField, fieldSays}
+use Rattle.shapes.specs.Shape.{lengthOf, lengthOfUnder, placeOfUnder, tagFits, codeHead, body, bodySizeUnder, tagOf, dataOf, bodyOf, codeIn, sizeOf, sizeOfUnder, shape}
 use Rattle.shapes.specs.Answers.{answer, shaped}
 use Rattle.shapes.proofs.LengthLaws.{largest-small, place-small, says-low, says-other}
 use Rattle.shapes.proofs.ShapeLaws.{shape-good}
@@ -19,22 +19,22 @@ unread m e = sym (shape-most m (largest + 1) (sym e) (omega arith))
 
 -- "81 7f is 4", and so is 81 before any byte below 80, whatever follows
 pub low-after-81 : (t b : ℕ) (s : List ℕ) → b ≤ 0x7f → shaped (t ∷ 0x81 ∷ b ∷ s) ≡ Refused 4
-unfolding largestShort lengthOf
+unfolding largestShort lengthOfUnder
 low-after-81 t b s h = unread (t ∷ 0x81 ∷ b ∷ s) (says-low 0x81 b (lit≤ tt) h)
 
 -- and 81 with nothing after it
 pub cut-after-81 : (t : ℕ) → shaped (t ∷ 0x81 ∷ []) ≡ Refused 4
-unfolding largestShort lengthOf
+unfolding largestShort lengthOfUnder
 cut-after-81 t = unread (t ∷ 0x81 ∷ []) (says-low 0x81 0 (lit≤ tt) (lit≤ tt))
 
 -- "no other form is read": byte 80 and 82 to ff
 pub other-form : (t a : ℕ) (s : List ℕ) → 0x80 ≤ a → (a ≡ 0x81 → ⊥) → shaped (t ∷ a ∷ s) ≡ Refused 4
-unfolding largestShort lengthOf
+unfolding largestShort lengthOfUnder
 other-form t a s h e = unread (t ∷ a ∷ s) (says-other a (getD s 0 0) h e)
 
 -- "The largest message is 264 bytes"
 pub largest-message : sizeOf largest ≡ 264
-unfolding sizeOf bodySize largest largestShort lengthField placeOf
+unfolding sizeOfUnder bodySizeUnder largest largestShort lengthField placeOfUnder
 largest-message = refl
 
 pub size-most : (m : List ℕ) → shape m ≡ true → length m ≤ 264

@@ -8,7 +8,8 @@ use borrow.Author.Tests.{ne-eqb, le-leb, lt-leb, leb-true, leb-false, eqb-true, 
 use lib.Dec.{leb, eqb, lit≤}
 use lib.ListN.{length, getD, take, drop}
 use Rattle.octets.proofs.Parts.{elements-part}
-use Rattle.shapes.specs.Length.{largest, largestShort, lengthField, fieldSays, lengthOf, placeOf}
+use Rattle.shapes.specs.Length.{largest, largestShort, lengthField, fieldSays}
+use Rattle.shapes.specs.Shape.{lengthOf, lengthOfUnder, placeOf, placeOfUnder}
 
 pub largest-small : largest ≤ 255
 unfolding largest
@@ -25,7 +26,7 @@ field-long n h = simp (lt-leb _ _ h)
 
 -- the data stand after tag and field
 pub place-is : (n : ℕ) → placeOf n ≡ 1 + length (lengthField n)
-unfolding placeOf
+unfolding placeOfUnder
 place-is n = refl
 
 pub place-short : (n : ℕ) → n ≤ largestShort → placeOf n ≡ 2
@@ -88,7 +89,7 @@ says a b = go (form a) (eqb a 0x81) refl (form b)
     go (long h) false e f = none (says-other a b h (eqb-false _ _ e))
 
 is-said : (m : List ℕ) → lengthOf m ≡ fieldSays (getD m 1 0) (getD m 2 0)
-unfolding lengthOf
+unfolding lengthOfUnder
 is-said m = refl
 
 -- one law for each way out of reading a length
@@ -128,7 +129,7 @@ field-read m h l = go (says (getD m 1 0) (getD m 2 0))
 
 -- a field that is written is read
 pub read-field : (t n : ℕ) (s : List ℕ) → n ≤ largest → lengthOf (t ∷ (lengthField n ++ s)) ≡ n
-unfolding lengthOf
+unfolding lengthOfUnder
 read-field t n s h = go (form n)
   where
     go : Form n → lengthOf (t ∷ (lengthField n ++ s)) ≡ n

@@ -12,8 +12,8 @@ use lib.Seq.{length-take-le, take-add, take-at, drop-at}
 use Rattle.octets.specs.Same.{same}
 use Rattle.octets.proofs.SameLaws.{same-refl, same-true}
 use Rattle.octets.proofs.Parts.{elements-part}
-use Rattle.shapes.specs.Length.{largest, lengthField, lengthOf, placeOf}
-use Rattle.shapes.specs.Shape.{tagFits, codeHead, body, bodySize, tagOf, dataOf, bodyOf, codeIn, shape}
+use Rattle.shapes.specs.Length.{largest, lengthField}
+use Rattle.shapes.specs.Shape.{lengthOf, placeOf, tagFits, codeHead, body, bodyUnder, bodySize, bodySizeUnder, tagOf, dataOf, dataOfUnder, bodyOf, bodyOfUnder, codeIn, codeInUnder, shape, shapeUnder}
 use Rattle.shapes.proofs.LengthLaws.{place-is, length-head, field-read, read-field}
 
 -- what the code tests
@@ -25,21 +25,21 @@ pub record Good (m : List ℕ) : Type 0 where
 
 -- a body by its parts, and its length
 pub length-body : (t : ℕ) (d : List ℕ) → length (body t d) ≡ bodySize (length d)
-unfolding body bodySize codeHead
+unfolding bodyUnder bodySizeUnder codeHead
 length-body t d =
     let f = lengthField (length d) in
     let p = place-is (length d) in
     ap suc (length-append (f ++ d) (0x8e ∷ 0x04 ∷ []) ∙ ap (λ (k : ℕ). k + 2) (length-append f d)) ∙ omega arith
 
 pub length-data : (m : List ℕ) → placeOf (lengthOf m) + lengthOf m ≤ length m → length (dataOf m) ≡ lengthOf m
-unfolding dataOf
+unfolding dataOfUnder
 length-data m h = length-take-le (lengthOf m) (drop (placeOf (lengthOf m)) m) (omega (arith, length-drop (placeOf (lengthOf m)) m))
 
 two-at : (m : List ℕ) (i : ℕ) → i + 2 ≤ length m → take 2 (drop i m) ≡ getD m i 0 ∷ getD m (i + 1) 0 ∷ []
 two-at m i h = elements-part m i 2 h ∙ ap (λ (k : ℕ). getD m k 0 ∷ getD m (i + 1) 0 ∷ []) (add-zero i)
 
 good-body : (m : List ℕ) → Good m → bodyOf m ≡ body (tagOf m) (dataOf m)
-unfolding bodyOf body bodySize tagOf dataOf
+unfolding bodyOfUnder bodyUnder bodySizeUnder tagOf dataOfUnder
 good-body m g =
     let n = lengthOf m in
     let p = placeOf n in
@@ -56,11 +56,11 @@ good-body m g =
     ∙ ap (λ (k : ℕ). (getD m 0 0 ∷ lengthField k) ++ take n (drop p m) ++ codeHead) (sym (length-data m (omega arith)))
 
 good-code : (m : List ℕ) → Good m → length (codeIn m) ≡ 4
-unfolding codeIn bodySize
+unfolding codeInUnder bodySizeUnder
 good-code m g = let l = g .long in simp length-drop (omega arith)
 
 pub good-shape : (m : List ℕ) → Good m → shape m ≡ true
-unfolding shape
+unfolding shapeUnder
 good-shape m g =
     let s : same (bodyOf m) (body (tagOf m) (dataOf m)) ≡ true = rw (good-body m g) (same-refl (body (tagOf m) (dataOf m))) in
     simp (g .tagged, le-leb _ _ (g .most), s, eq-eqb _ _ (good-code m g))
@@ -68,17 +68,17 @@ good-shape m g =
 -- a body, and four bytes after it, are a message of that tag and data
 module _ (t : ℕ) (d c : List ℕ) (l : length d ≤ largest) where
   pub length-read : lengthOf (body t d ++ c) ≡ length d
-  unfolding body
+  unfolding bodyUnder
   length-read =
       ap (λ (x : List ℕ). lengthOf (t ∷ x)) (append-assoc (lengthField (length d) ++ d) codeHead c ∙ append-assoc (lengthField (length d)) d (codeHead ++ c))
       ∙ read-field t (length d) (d ++ (codeHead ++ c)) l
 
   pub tag-read : tagOf (body t d ++ c) ≡ t
-  unfolding body tagOf
+  unfolding bodyUnder tagOf
   tag-read = refl
 
   pub data-read : dataOf (body t d ++ c) ≡ d
-  unfolding dataOf body
+  unfolding dataOfUnder bodyUnder
   data-read =
       let f = lengthField (length d) in
       let n = length-read in
@@ -89,11 +89,11 @@ module _ (t : ℕ) (d c : List ℕ) (l : length d ≤ largest) where
       ∙ take-at d (codeHead ++ c) (length d) refl
 
   pub body-read : bodyOf (body t d ++ c) ≡ body t d
-  unfolding bodyOf
+  unfolding bodyOfUnder
   body-read = ap (λ (k : ℕ). take (bodySize k) (body t d ++ c)) length-read ∙ take-at (body t d) c (bodySize (length d)) (length-body t d)
 
   pub code-read : codeIn (body t d ++ c) ≡ c
-  unfolding codeIn
+  unfolding codeInUnder
   code-read = ap (λ (k : ℕ). drop (bodySize k) (body t d ++ c)) length-read ∙ drop-at (body t d) c (bodySize (length d)) (length-body t d)
 
 -- a message of good shape is its body and its code
@@ -106,7 +106,7 @@ pub record Parts (m : List ℕ) : Type 0 where
   pub four : length (codeIn m) ≡ 4
 
 parts-of : (m : List ℕ) → shape m ≡ true → (tagFits (tagOf m) ≡ true) × (lengthOf m ≤ largest) × (bodyOf m ≡ body (tagOf m) (dataOf m)) × (length (codeIn m) ≡ 4)
-unfolding shape
+unfolding shapeUnder
 parts-of m e =
     let a = and-eq-true-iff (tagFits (tagOf m)) _ .0 e in
     let b = and-eq-true-iff (leb (lengthOf m) largest) _ .0 (a .1) in
@@ -114,11 +114,11 @@ parts-of m e =
     (a .0, leb-true _ _ (b .0), same-true _ _ (c .0), eqb-true _ _ (c .1))
 
 data-most : (m : List ℕ) → length (dataOf m) ≤ lengthOf m
-unfolding dataOf
+unfolding dataOfUnder
 data-most m = rw length-take (min-le-left _ _)
 
 pub shape-parts : (m : List ℕ) → shape m ≡ true → Parts m
-unfolding bodyOf codeIn
+unfolding bodyOfUnder codeInUnder
 shape-parts m e =
     let q = parts-of m e in
     let k = bodySize (lengthOf m) in
@@ -138,7 +138,7 @@ unfolding codeHead
 head-first c = refl
 
 pub shape-good : (m : List ℕ) → shape m ≡ true → Good m
-unfolding bodySize body
+unfolding bodySizeUnder bodyUnder
 shape-good m e =
     let q = shape-parts m e in
     let n = lengthOf m in

@@ -44,8 +44,8 @@ firstOf [] header tag n = Unlisted NotListed
 firstOf (c ∷ cs) header tag n = cond (isFor c header tag n) (One c) (firstOf cs header tag n)
 
 -- the command that header, tag and L are for
-unfoldable pub commandOf : List ℕ → ℕ → ℕ → Listed
-commandOf header tag n = firstOf listed header tag n
+abbrev pub commandOf : List ℕ → ℕ → ℕ → Listed
+commandOf = firstOf listed
 
 -- 01's number of an answer, whose value is the command: "class, instruction, parameters, tag or L not one listed" is 5
 unfoldable pub refusal : Listed → ℕ

@@ -1,10 +1,9 @@
--- The length field of a script message (01, Script messages, and Wish 1): how a length is written, how it is read, and where the data stand.
+-- The length field of a script message (01, Script messages, and Wish 1): how a length is written, and how it is read.
 -- Nothing outside this module knows how many bytes the field has. Assumes nothing.
 use Prim.Native.Nat.{ℕ, _+_}
 use mathlib.Core.Bool.{_&&_, cond}
 use mathlib.Core.List.{List, [], _∷_}
 use lib.Dec.{leb, eqb}
-use lib.ListN.{length, getD}
 
 -- "Let L go to 255"
 unfoldable pub largest : ℕ
@@ -21,11 +20,3 @@ lengthField n = cond (leb n largestShort) (n ∷ []) (0x81 ∷ n ∷ [])
 -- what a field of byte a, or of a and b, says; "no other form is read": any other says 256, more than a message may have
 unfoldable pub fieldSays : ℕ → ℕ → ℕ
 fieldSays a b = cond (leb a largestShort) a (cond (eqb a 0x81 && leb (largestShort + 1) b) b (largest + 1))
-
--- what the field of a message says; the field follows the tag
-unfoldable pub lengthOf : List ℕ → ℕ
-lengthOf m = fieldSays (getD m 1 0) (getD m 2 0)
-
--- the place of n bytes of data: after the tag and the field
-unfoldable pub placeOf : ℕ → ℕ
-placeOf n = 1 + length (lengthField n)

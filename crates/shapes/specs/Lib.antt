@@ -1,4 +1,5 @@
 pub mod Length
+pub mod Command
+pub mod Rules
 pub mod Shape
 pub mod Answers
-pub mod Command

@@ -3,8 +3,7 @@ ghost use mathlib.Core.Path.{_≡_};
 ghost use mathlib.Core.List.{[], _∷_};
 ghost use lib.ListN.{getD};
 ghost use Rattle.octets.specs.Same.{same};
-ghost use Rattle.shapes.specs.Length.{lengthOf, placeOf};
-ghost use Rattle.shapes.specs.Shape.{tagFits, codeHead};
+ghost use Rattle.shapes.specs.Shape.{tagFits, codeHead, lengthOf, placeOf};
 ghost use Rattle.shapes.specs.Answers.{shapeNumber, shaped, Tells};
 use answers::Refusal;
 

@@ -14,7 +14,7 @@ use Rattle.derive.proofs.Laws.{length-kept}
 use Rattle.card.specs.Record.{Masters, masters}
 use Rattle.card.specs.Words.{FitAll}
 use Rattle.lines.specs.declared.Held.{Held}
-use Rattle.lines.specs.Lines.{longest, hexadecimal, octetOf, octetsOf, readable}
+use Rattle.lines.specs.Lines.{longest, hexadecimal, octetOf, octetsOf, readable, readableUnder}
 use Rattle.lines.specs.Said.{said}
 use Rattle.frames.proofs.MasterLaws.{masters-answer}
 use Rattle.trace.specs.declared.Trace.{Trace}
@@ -48,7 +48,7 @@ kept-within k = let m = k .most in let l = k .size in omega arith
 
 -- a line that does not begin with two digits 0 leaves the keys
 first-octet : (c : ℕ) (l : List ℕ) → readable (take c l) ≡ true → getD (octetsOf (take c l)) 0 0 ≡ octetOf (getD l 0 0) (getD l 1 0)
-unfolding readable hexadecimal octetsOf
+unfolding readableUnder hexadecimal octetsOf
 first-octet zero l e = absurd (false≢true e)
 first-octet (suc zero) [] e = absurd (false≢true e)
 first-octet (suc zero) (x ∷ l) e = absurd (false≢true e)

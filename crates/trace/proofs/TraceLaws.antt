@@ -16,11 +16,11 @@ use Rattle.lines.specs.declared.Held.{Held}
 use Rattle.lines.specs.Lines.{longest, keptSigns, lastLine, linesFrom, lines, lineFor}
 use Rattle.lines.specs.Answers.{LineAnswer, nothing, numbered}
 use Rattle.lines.specs.Said.{filledTo, said, longestAnswer}
-use Rattle.frames.specs.Frames.{answerTo}
+use Rattle.frames.specs.Frames.{answerTo, answerToUnder}
 use Rattle.frames.proofs.FrameLaws.{readable-long}
 use Rattle.trace.specs.declared.Trace.{Trace}
 use Rattle.trace.specs.declared.Fed.{Fed}
-use Rattle.trace.specs.Traced.{answers, traced}
+use Rattle.trace.specs.Traced.{answers, answersUnder, traced, tracedUnder}
 use Rattle.trace.specs.Feeding.{begun, lineOf, extended, resting, completed, fedFrom, fed, ended, answerIn, afterAll, answersAll, afterParts, answersParts, joined, fillingFrom}
 
 -- fed in parts is fed at once: the same trace after it, and the answers joined
@@ -152,7 +152,7 @@ holds-sign t l b false v h =
 
 -- the answer does not depend on what is past the longest line
 answer-cut : (h : Held) (l : List ℕ) (v : Bool) → leb (length l) keptSigns ≡ v → answerTo h (take keptSigns l) ≡ answerTo h l
-unfolding answerTo
+unfolding answerToUnder
 answer-cut h l true v = ap (answerTo h) (take-all keptSigns l (leb-true _ _ v))
 answer-cut h l false v =
     let n : keptSigns < length l = leb-false _ _ v in
@@ -177,7 +177,7 @@ completed-holds t l h = holds-nothing (completed t 1 .trace) (h .room) refl
 
 -- the end of the input
 last-line : (t : Trace) (l : List ℕ) → Holds t l → answerIn (ended t) ≡ answers (t .held) (lastLine l)
-unfolding ended resting answers
+unfolding ended resting answersUnder
 last-line t [] h = rw (eq-eqb _ _ (h .count))
 last-line t (x ∷ l) h =
     let n : t .count ≡ 0 → ⊥ = λ e. omega (arith, h .count) in
@@ -187,7 +187,7 @@ last-line t (x ∷ l) h =
 reads-line : (b : ℕ) (s : List ℕ) (t : Trace) (l : List ℕ) → Holds t l → eqb b 10 ≡ true
     → ((u : Trace) → Holds u [] → answersAll u s ++ answerIn (ended (afterAll u s)) ≡ answers (u .held) (linesFrom [] s))
     → answersAll t (b ∷ s) ++ answerIn (ended (afterAll t (b ∷ s))) ≡ answers (t .held) (linesFrom l (b ∷ s))
-unfolding afterAll answersAll answers linesFrom
+unfolding afterAll answersAll answersUnder linesFrom
 reads-line b s t l h e r =
     let u : Trace = completed t 1 .trace in
     let x : LineAnswer = answerTo (t .held) (lineOf t) in
@@ -214,7 +214,7 @@ reads (b ∷ s) t l h =
 
 -- from the beginning, all answers to the input and the answer at its end are the whole output
 pub traced-fed : (input : List ℕ) → answersAll begun input ++ answerIn (ended (afterAll begun input)) ≡ traced input
-unfolding traced
+unfolding tracedUnder
 traced-fed input = reads input begun [] (holds-nothing begun refl refl)
 
 -- however the input is cut into parts

@@ -5,7 +5,7 @@ use native.Mathlib.Omega.{arith}
 use lib.ListN.{length, take, length-set}
 use lib.Seq.{length-take-le}
 use denote.Ref.{now}
-use Rattle.shapes.specs.Shape.{bodySize}
+use Rattle.shapes.specs.Shape.{bodySize, bodySizeUnder}
 use Rattle.shapes.proofs.LengthLaws.{largest-small, place-small}
 use Rattle.message.specs.Code.{codeFor}
 use Rattle.message.specs.Answers.{laid}
@@ -31,7 +31,7 @@ code-for-requires c κs =
     (s .pre .0, omega (arith, place-small (s .args .n), largest-small))
 
 returns : tie.Need-returns
-unfolding bodySize
+unfolding bodySizeUnder
 returns c =
     let s = c .before .before .before .before .before .before in
     let x = s .args in

@@ -10,7 +10,7 @@ use borrow.Author.Tests.{ne-eqb}
 use Rattle.octets.specs.Numbers.{be, le}
 use Rattle.octets.specs.Same.{same}
 use Rattle.octets.specs.Digits.{digits, hexDigit, hexOctet, hexValue}
-use Rattle.pin.specs.PinBlock.{pinFits, halves, wellFormed, pinOf}
+use Rattle.pin.specs.PinBlock.{pinFits, nibbles, wellFormed, pinOf}
 use Rattle.pin.specs.CounterBlock.{countersOf}
 use Rattle.pin.specs.Answers.{found, noPin, readBlock}
 use Rattle.transaction.specs.Transaction.{pendingFits, restFits}
@@ -44,7 +44,7 @@ surplus-stays h l f b s r o m = rw (r, o, ne-eqb f 0 (λ z. omega arith)) (go (h
     go false e = rw e
 
 pub trace-cases : TraceCases
-unfolding be le same digits hexDigit hexOctet hexValue pinFits halves wellFormed pinOf countersOf found noPin readBlock pendingFits restFits sound judgedUnder dueUnder afterUnder personalised linesFrom legible octetOf octetsOf hexadecimal readableUnder hexText lineFor octetsFor replied part personalisedBy starts overlong calledUnder callingUnder framedUnder answerToUnder answersUnder tracedUnder
+unfolding be le same digits hexDigit hexOctet hexValue pinFits nibbles wellFormed pinOf countersOf found noPin readBlock pendingFits restFits sound judgedUnder dueUnder afterUnder personalised linesFrom legible octetOf octetsOf hexadecimal readableUnder hexText lineFor octetsFor replied part personalisedBy starts overlong calledUnder callingUnder framedUnder answerToUnder answersUnder tracedUnder
 trace-cases =
     record {
       whole = refl;

@@ -14,7 +14,7 @@ use Rattle.shapes.specs.Command.{headerOf, tagFor, lengthFor, isFor, listed, fi
 use Rattle.shapes.specs.Answers.{answerUnder, shapedUnder}
 use Rattle.cipher.specs.Answers.{blockFits}
 use Rattle.keys.specs.CardNumber.{X, sixteen, Y}
-use Rattle.pin.specs.PinBlock.{pinFits, halves, fields, pinBlock, wellFormed, pinOf}
+use Rattle.pin.specs.PinBlock.{pinFits, nibbles, fields, pinBlock, wellFormed, pinOf}
 use Rattle.pin.specs.CounterBlock.{counterBlock, countersOf}
 use Rattle.pin.specs.Answers.{found, noPin, writePin, readBlock, readPin, decipherPin}
 use Rattle.keys.specs.Seeds.{sessionSeed}
@@ -32,7 +32,7 @@ use Rattle.history.specs.Examples.{openAt, spoiltAt, Table}
 use Rattle.history.specs.Cases.{Cases}
 
 pub p-table : Table
-unfolding leOctets beOctets same digits pairs X sixteen Y pinFits halves fields pinBlock wellFormed pinOf blockFits writePin readBlock readPin width widths dataFields row place counterPlace issuerPlace kindPlace kindBits marked cardData largest largestShort lengthField fieldSays lengthOfUnder placeOfUnder tagFits codeHead bodyUnder bodySizeUnder tagOf dataOfUnder bodyOfUnder codeInUnder shapeUnder answerUnder shapedUnder pendingFits restFits sound judgedUnder dueUnder afterUnder
+unfolding leOctets beOctets same digits pairs X sixteen Y pinFits nibbles fields pinBlock wellFormed pinOf blockFits writePin readBlock readPin width widths dataFields row place counterPlace issuerPlace kindPlace kindBits marked cardData largest largestShort lengthField fieldSays lengthOfUnder placeOfUnder tagFits codeHead bodyUnder bodySizeUnder tagOf dataOfUnder bodyOfUnder codeInUnder shapeUnder answerUnder shapedUnder pendingFits restFits sound judgedUnder dueUnder afterUnder
 p-table =
     record {
       P1 = refl;
@@ -68,7 +68,7 @@ unfolding same digits pinFits pendingFits restFits sound judgedUnder judgedScrip
 unread-9 h m a b c d e = rw (eq-eqb _ _ a, b, c, d, ne-eqb _ _ e)
 
 pub cases : Cases
-unfolding same leOctets beOctets be le lengthField fieldSays largest largestShort lengthOfUnder placeOfUnder tagFits codeHead bodyUnder bodySizeUnder tagOf dataOfUnder bodyOfUnder codeInUnder shapeUnder headerOf tagFor lengthFor isFor listed firstOf digits halves wellFormed pinOf pinFits readBlock found noPin countersOf counterBlock kindNumber sessionSeed sessionKeyOf counterKeyOf pendingFits restFits sound judgedScript judgedUnder arpcFor cryptogramFor countersFor dueUnder afterUnder personalised
+unfolding same leOctets beOctets be le lengthField fieldSays largest largestShort lengthOfUnder placeOfUnder tagFits codeHead bodyUnder bodySizeUnder tagOf dataOfUnder bodyOfUnder codeInUnder shapeUnder headerOf tagFor lengthFor isFor listed firstOf digits nibbles wellFormed pinOf pinFits readBlock found noPin countersOf counterBlock kindNumber sessionSeed sessionKeyOf counterKeyOf pendingFits restFits sound judgedScript judgedUnder arpcFor cryptogramFor countersFor dueUnder afterUnder personalised
 cases =
     record {
       open-6-1 = refl;

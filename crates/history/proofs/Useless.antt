@@ -23,7 +23,7 @@ use Rattle.cipher.proofs.CodeLaws.{length-codeOf}
 use Rattle.hash.proofs.Laws.{length-hash256}
 use Rattle.derive.specs.Hmac.{hmac}
 use Rattle.derive.specs.Derivation.{derived}
-use Rattle.pin.specs.PinBlock.{pinFits, halves, wellFormed}
+use Rattle.pin.specs.PinBlock.{pinFits, nibbles, wellFormed}
 use Rattle.pin.specs.CounterBlock.{countersOf}
 use Rattle.pin.specs.Answers.{found, noPin, readBlock}
 use Rattle.message.specs.Code.{message, given}
@@ -66,7 +66,7 @@ first-loading =
     }
 
 is-fresh : Fresh first-loading
-unfolding personalised readBlock wellFormed halves pinFits digits found noPin
+unfolding personalised readBlock wellFormed nibbles pinFits digits found noPin
 is-fresh = refl
 
 abbrev first-card : Card

@@ -16,7 +16,7 @@ use Rattle.octets.specs.Numbers.{leOctets}
 use Rattle.octets.proofs.Parts.{elements, elements-all}
 use Rattle.tables.specs.Matrix.{entry, entryAt}
 use Rattle.lps.specs.Vectors.{each, X, LPS}
-use Rattle.lps.specs.Inner.{looked, byteAt, bytesAt, Eight, Shifted, Spread, firstOf, Skipped}
+use Rattle.lps.specs.Inner.{looked, byteAt, bytesAt, Eight, Shifted, Spread, firstWord, Skipped}
 use Rattle.lps.proofs.Each.{each-equal, each-at}
 use Rattle.lps.proofs.Words.{lps-at, length-LPS}
 
@@ -55,16 +55,16 @@ shortened-at x (suc (suc (suc (suc zero)))) h = refl
 shortened-at x (suc (suc (suc (suc (suc i))))) h = absurd (omega arith)
 
 module _ (t : Bool) (x : List ℕ) (n : length x ≡ 10) where
-  pub skipped-none : not t ≡ true → (0 ≡ firstOf t) × Skipped 0 x x
-  skipped-none e = (ap firstOf (sym (not-true t e)), (n, λ j l. refl))
+  pub skipped-none : not t ≡ true → (0 ≡ firstWord t) × Skipped 0 x x
+  skipped-none e = (ap firstWord (sym (not-true t e)), (n, λ j l. refl))
 
-  pub skipped-upper : not t ≡ false → (4 ≡ firstOf t) × Skipped 4 x (shortened x)
+  pub skipped-upper : not t ≡ false → (4 ≡ firstWord t) × Skipped 4 x (shortened x)
   skipped-upper e = (
-    ap firstOf (sym (not-false t e)),
+    ap firstWord (sym (not-false t e)),
     subst (λ (y : List ℕ). Skipped 4 y (shortened y)) (sym (elements-all x 10 n)) (refl, shortened-at x),
   )
 
-pub first-fits : (t : Bool) → firstOf t ≤ 8
+pub first-fits : (t : Bool) → firstWord t ≤ 8
 first-fits true = lit≤ tt
 first-fits false = lit≤ tt
 

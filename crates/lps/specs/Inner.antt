@@ -36,8 +36,8 @@ abbrev pub Spread : List ℕ → List ℕ → Type 0
 Spread v x = (length x ≡ 10) × ((j : ℕ) → j < 5 → getD x (2 * j) 0 ≡ getD v j 0)
 
 -- the first word of the answer that is asked for
-abbrev pub firstOf : Bool → ℕ
-firstOf upper = cond upper 4 0
+abbrev pub firstWord : Bool → ℕ
+firstWord upper = cond upper 4 0
 
 -- the first five words without their lowest k bytes
 abbrev pub Skipped : ℕ → List ℕ → List ℕ → Type 0

@@ -11,7 +11,7 @@ ghost use lib.ListN.{length, getD, set, drop};
 ghost use lib.Seq.{sets};
 ghost use Rattle.octets.specs.Numbers.{leOctets};
 ghost use Rattle.lps.specs.Vectors.{LPS, X};
-ghost use Rattle.lps.specs.Inner.{looked, byteAt, bytesAt, Eight, Shifted, Spread, firstOf, Skipped};
+ghost use Rattle.lps.specs.Inner.{looked, byteAt, bytesAt, Eight, Shifted, Spread, firstWord, Skipped};
 use tables::word;
 
 // The eight bytes of a word, lowest first.
@@ -58,7 +58,7 @@ fn spread(a: &[u64; 8], b: &[u64; 8]) -> [u64; 10]
 // The first word of the answer that is asked for: 4 for the upper half, else 0. The bytes that no such word needs go from x.
 fn skip(x: &mut [u64; 10], upper: bool) -> usize
     requires { ⌜ length (now x) ≡ 10 ⌝ }
-    ensures { λ r. ⌜ (r ≡ firstOf upper) × Skipped r (now (x .entry)) (now (x .exit)) ⌝ }
+    ensures { λ r. ⌜ (r ≡ firstWord upper) × Skipped r (now (x .entry)) (now (x .exit)) ⌝ }
 {
     if !upper {
         return 0;
@@ -113,7 +113,7 @@ fn column(x: &mut [u64; 10], u: &[u8], v: &[u8], w: &[u8], k: usize) -> u64
 
 // LPS X[s](b) in the place of s: all eight words, or the upper four alone.
 fn turn_from(s: &mut [u64; 8], b: &[u64; 8], upper: bool)
-    ensures { λ _. ⌜ now (s .exit) ≡ sets (now (s .entry)) (firstOf upper) (drop (firstOf upper) (LPS (X (now (s .entry)) (now (b .entry))))) ⌝ }
+    ensures { λ _. ⌜ now (s .exit) ≡ sets (now (s .entry)) (firstWord upper) (drop (firstWord upper) (LPS (X (now (s .entry)) (now (b .entry))))) ⌝ }
 {
     let mut x = spread(s, b);
     let u = bytes_of(s[5] ^ b[5]);

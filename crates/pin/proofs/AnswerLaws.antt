@@ -14,7 +14,7 @@ use Rattle.gost.specs.Gost.{encipher, decipher}
 use Rattle.answers.specs.declared.BlockAnswer.{BlockAnswer}
 use Rattle.cipher.specs.Answers.{blockFits, blockAnswer, enciphered, deciphered}
 use Rattle.cipher.proofs.AnswerLaws.{fits as block-fits}
-use Rattle.pin.specs.PinBlock.{pinFits, halves, fields, pinBlock, wellFormed, pinOf}
+use Rattle.pin.specs.PinBlock.{pinFits, nibbles, fields, pinBlock, wellFormed, pinOf}
 use Rattle.answers.specs.Answers.{aBlock, noBlock}
 use Rattle.pin.specs.Answers.{found, noPin, writePin, readBlock, readPin, encipherPin, decipherPin}
 use Rattle.pin.proofs.BlockLaws.{Fits, fits, Formed, formed, length-fields}
@@ -58,7 +58,7 @@ unfolding pinOf
 length-pinOf h f = length-take-le (getD h 1 0) (drop 2 h) (digits-length 15 (getD h 1 0) (drop 2 h) (f .pin .all))
 
 -- h are the half-bytes of a block b, t is their test
-module _ (b h : List ℕ) (e : h ≡ halves b) (t : Bool) (w : t ≡ wellFormed h) where
+module _ (b h : List ℕ) (e : h ≡ nibbles b) (t : Bool) (w : t ≡ wellFormed h) where
   pub block-formed : not t ≡ false → Formed h
   block-formed n = formed h (sym w ∙ not-false t n)
 

@@ -12,7 +12,7 @@ use Rattle.octets.specs.Numbers.{Octets}
 use Rattle.octets.specs.Digits.{digits, pairs}
 use Rattle.octets.proofs.DigitLaws.{digits-at}
 use Rattle.octets.proofs.Parts.{elements-all, drop-replicate}
-use Rattle.pin.specs.PinBlock.{pinFits, halves, fields, wellFormed}
+use Rattle.pin.specs.PinBlock.{pinFits, nibbles, fields, wellFormed}
 
 -- ---- what the tests say
 
@@ -100,8 +100,8 @@ module _ (pin : List ℕ) where
       (sym (drop-drop (length pin) 2 (2 ∷ length pin ∷ replicate 14 15)) ∙ drop-replicate (length pin) 14 15)
 
 -- an even number of half-bytes is read back from its bytes, which are octets
-pub halves-pairs : (s : List ℕ) (k : ℕ) → length s ≡ k + k → Small s → halves (pairs 16 s) ≡ s
-unfolding halves pairs
+pub halves-pairs : (s : List ℕ) (k : ℕ) → length s ≡ k + k → Small s → nibbles (pairs 16 s) ≡ s
+unfolding nibbles pairs
 halves-pairs [] k e h = refl
 halves-pairs (x ∷ []) k e h = let z : 1 ≡ k + k = e in absurd (omega arith)
 halves-pairs (x ∷ y ∷ s) zero e h = let z : suc (suc (length s)) ≡ 0 = e in absurd (omega arith)
@@ -118,7 +118,7 @@ octets-pairs (x ∷ []) h i = omega arith
 octets-pairs (x ∷ y ∷ s) h zero = let a : x < 16 = h 0 in let b : y < 16 = h 1 in omega arith
 octets-pairs (x ∷ y ∷ s) h (suc i) = octets-pairs s (λ j. h (suc (suc j))) i
 
-pub pairs-halves : (b : List ℕ) → pairs 16 (halves b) ≡ b
-unfolding pairs halves
+pub pairs-halves : (b : List ℕ) → pairs 16 (nibbles b) ≡ b
+unfolding pairs nibbles
 pairs-halves [] = refl
 pairs-halves (x ∷ b) = ap₂ {C = List ℕ} (λ y t. y ∷ t) (omega arith) (pairs-halves b)

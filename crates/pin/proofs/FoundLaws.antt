@@ -11,7 +11,7 @@ use Rattle.octets.specs.Lengths.{keyFits}
 use Rattle.gost.specs.Gost.{decipher}
 use Rattle.cipher.specs.Answers.{blockFits}
 use Rattle.pin.specs.declared.PinRead.{PinRead}
-use Rattle.pin.specs.PinBlock.{pinFits, halves, wellFormed, pinOf}
+use Rattle.pin.specs.PinBlock.{pinFits, nibbles, wellFormed, pinOf}
 use Rattle.pin.specs.Answers.{found, noPin, readBlock, decipherPin}
 use Rattle.pin.proofs.BlockLaws.{formed}
 use Rattle.pin.proofs.AnswerLaws.{length-pinOf}
@@ -27,7 +27,7 @@ found-fits h g =
 
 pub read-fits : (b : List ℕ) → readBlock b .code ≡ 0 → pinFits 0 (readBlock b .count) (readBlock b .pin) ≡ true
 unfolding readBlock
-read-fits b h = rw (format-accepted b h) (found-fits (halves b) (format-accepted b h))
+read-fits b h = rw (format-accepted b h) (found-fits (nibbles b) (format-accepted b h))
 
 no-pin : noPin 1 .code ≡ 0 → ⊥
 unfolding noPin

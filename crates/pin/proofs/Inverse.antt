@@ -18,7 +18,7 @@ use Rattle.gost.proofs.Inverse.{length-encipher, length-decipher, decipher-enci
 use Rattle.cipher.specs.Answers.{blockFits}
 use Rattle.answers.specs.declared.BlockAnswer.{BlockAnswer}
 use Rattle.pin.specs.declared.PinRead.{PinRead}
-use Rattle.pin.specs.PinBlock.{pinFits, halves, fields, pinBlock, wellFormed, pinOf}
+use Rattle.pin.specs.PinBlock.{pinFits, nibbles, fields, pinBlock, wellFormed, pinOf}
 use Rattle.answers.specs.Answers.{aBlock, noBlock}
 use Rattle.pin.specs.Answers.{found, noPin, digitsOf, writePin, readBlock, readPin, encipherPin, decipherPin}
 use Rattle.pin.proofs.BlockLaws.{Fits, fits, formed, small-fields, length-fields, halves-pairs, octets-pairs, pairs-halves}
@@ -43,9 +43,9 @@ write-accepted : (pin : List ℕ) → writePin pin .code ≡ 0 → pinFits 0 (le
 unfolding writePin
 write-accepted pin h = accepted-block (pinFits 0 (length pin) pin) (aBlock (pinBlock pin)) 11 h .0
 
-pub format-accepted : (b : List ℕ) → readBlock b .code ≡ 0 → wellFormed (halves b) ≡ true
+pub format-accepted : (b : List ℕ) → readBlock b .code ≡ 0 → wellFormed (nibbles b) ≡ true
 unfolding readBlock
-format-accepted b h = accepted-read (wellFormed (halves b)) (found (pinOf (halves b))) 8 h .0
+format-accepted b h = accepted-read (wellFormed (nibbles b)) (found (pinOf (nibbles b))) 8 h .0
 
 -- ---- clear blocks
 
@@ -80,19 +80,19 @@ pub digits-found : (pin : List ℕ) → digitsOf (found pin) ≡ pin
 unfolding digitsOf found
 digits-found pin = take-at pin (replicate (12 - length pin) 0) (length pin) refl
 
-length-halves : (b : List ℕ) → length b ≡ 8 → length (halves b) ≡ 16
-unfolding halves
-length-halves b e = ap (λ (s : List ℕ). length (halves s)) (elements-all b 8 e)
+length-halves : (b : List ℕ) → length b ≡ 8 → length (nibbles b) ≡ 16
+unfolding nibbles
+length-halves b e = ap (λ (s : List ℕ). length (nibbles s)) (elements-all b 8 e)
 
-module _ (b : List ℕ) (e : length b ≡ 8) (g : wellFormed (halves b) ≡ true) where
-  pub found-block : readBlock b ≡ found (pinOf (halves b))
+module _ (b : List ℕ) (e : length b ≡ 8) (g : wellFormed (nibbles b) ≡ true) where
+  pub found-block : readBlock b ≡ found (pinOf (nibbles b))
   unfolding readBlock
-  found-block = ap (λ (t : Bool). cond t (found (pinOf (halves b))) (noPin 9)) g
+  found-block = ap (λ (t : Bool). cond t (found (pinOf (nibbles b))) (noPin 9)) g
 
-  pin-fits : pinFits 0 (length (pinOf (halves b))) (pinOf (halves b)) ≡ true
+  pin-fits : pinFits 0 (length (pinOf (nibbles b))) (pinOf (nibbles b)) ≡ true
   unfolding pinOf
   pin-fits =
-      let h = halves b in
+      let h = nibbles b in
       let n = getD h 1 0 in
       let f = formed h g in
       subst (λ (k : ℕ). pinFits 0 k (pinOf h) ≡ true) (sym (length-pinOf h f))
@@ -103,10 +103,10 @@ module _ (b : List ℕ) (e : length b ≡ 8) (g : wellFormed (halves b) ≡ true
         all = subst (λ (s : List ℕ). digits 0 n s ≡ true) (append-nil (take n (drop 2 h))) (digits-refilled 15 0 n 0 (drop 2 h) (f .pin .all));
       }))
 
-  pub block-written : pinBlock (pinOf (halves b)) ≡ b
+  pub block-written : pinBlock (pinOf (nibbles b)) ≡ b
   unfolding pinBlock fields pinOf
   block-written =
-      let h = halves b in
+      let h = nibbles b in
       let n = getD h 1 0 in
       let f = formed h g in
       let l : length h ≡ 16 = length-halves b e in
@@ -135,7 +135,7 @@ read-written pin h =
     ∙ sym (read-block (pinBlock pin) (length-pinBlock pin f))
     ∙ block-read pin f
 
-read-accepted : (b : List ℕ) → readPin b .code ≡ 0 → (length b ≡ 8) × (wellFormed (halves b) ≡ true)
+read-accepted : (b : List ℕ) → readPin b .code ≡ 0 → (length b ≡ 8) × (wellFormed (nibbles b) ≡ true)
 unfolding readPin blockFits
 read-accepted b h = let a = accepted-read (eqb (length b) 8) (readBlock b) 0 h in (eqb-true _ _ (a .0), format-accepted b (a .1))
 
@@ -144,8 +144,8 @@ pub written-read : (b : List ℕ) → readPin b .code ≡ 0 → writePin (digits
 written-read b h =
     let a = read-accepted b h in
     ap (λ (r : PinRead). writePin (digitsOf r)) (sym (read-block b (a .0)) ∙ found-block b (a .0) (a .1))
-    ∙ ap writePin (digits-found (pinOf (halves b)))
-    ∙ write-fits (pinOf (halves b)) (pin-fits b (a .0) (a .1))
+    ∙ ap writePin (digits-found (pinOf (nibbles b)))
+    ∙ write-fits (pinOf (nibbles b)) (pin-fits b (a .0) (a .1))
     ∙ ap aBlock (block-written b (a .0) (a .1))
 
 -- a PIN that was read has twelve places: its digits, 4 to 12 of them, and zeros
@@ -170,7 +170,7 @@ found-kept pin f =
 pub block-kept : (b : List ℕ) → length b ≡ 8 → readBlock b .code ≡ 0 → Kept (readBlock b)
 block-kept b e h =
     let g = format-accepted b h in
-    subst Kept (sym (found-block b e g)) (found-kept (pinOf (halves b)) (fits 0 (length (pinOf (halves b))) (pinOf (halves b)) (pin-fits b e g)))
+    subst Kept (sym (found-block b e g)) (found-kept (pinOf (nibbles b)) (fits 0 (length (pinOf (nibbles b))) (pinOf (nibbles b)) (pin-fits b e g)))
 
 -- ---- enciphered blocks
 
@@ -200,7 +200,7 @@ deciphered-enciphered key pin h =
     ∙ ap readBlock (decipher-encipher (pinBlock pin) (length-pinBlock pin f) (octets-pinBlock pin f) key)
     ∙ block-read pin f
 
-decipher-accepted : (key b : List ℕ) → decipherPin key b .code ≡ 0 → (keyFits key ≡ true) × ((length b ≡ 8) × (wellFormed (halves (decipher key b)) ≡ true))
+decipher-accepted : (key b : List ℕ) → decipherPin key b .code ≡ 0 → (keyFits key ≡ true) × ((length b ≡ 8) × (wellFormed (nibbles (decipher key b)) ≡ true))
 unfolding decipherPin blockFits
 decipher-accepted key b h =
     let a = accepted-read (keyFits key && eqb (length b) 8) (readBlock (decipher key b)) 0 h in
@@ -216,7 +216,7 @@ enciphered-deciphered key b o h =
     let d = decipher key b in
     let l : length d ≡ 8 = length-decipher key b in
     ap (λ (r : PinRead). encipherPin key (digitsOf r)) (decipher-fits key b k e ∙ found-block d l g)
-    ∙ ap (encipherPin key) (digits-found (pinOf (halves d)))
-    ∙ encipher-fits key (pinOf (halves d)) k (pin-fits d l g)
+    ∙ ap (encipherPin key) (digits-found (pinOf (nibbles d)))
+    ∙ encipher-fits key (pinOf (nibbles d)) k (pin-fits d l g)
     ∙ ap (λ (s : List ℕ). aBlock (encipher key s)) (block-written d l g)
     ∙ ap aBlock (encipher-decipher b e o key)

@@ -11,7 +11,7 @@ use Rattle.answers.specs.declared.BlockAnswer.{BlockAnswer}
 use Rattle.answers.specs.Refusals.{number}
 use Rattle.answers.specs.Answers.{aBlock, noBlock}
 use Rattle.pin.specs.declared.PinRead.{PinRead}
-use Rattle.pin.specs.PinBlock.{pinFits, halves, pinBlock, wellFormed, pinOf}
+use Rattle.pin.specs.PinBlock.{pinFits, nibbles, pinBlock, wellFormed, pinOf}
 
 -- a PIN in twelve places, zeros in the unused ones, and its count; or a refusal's number and zeros
 unfoldable pub found : List ℕ → PinRead
@@ -30,7 +30,7 @@ writePin pin = cond (pinFits 0 (length pin) pin) (aBlock (pinBlock pin)) (noBloc
 
 -- 01, refusal 9: the format is wrong; 1: a block is 8 bytes
 unfoldable pub readBlock : List ℕ → PinRead
-readBlock b = cond (wellFormed (halves b)) (found (pinOf (halves b))) (noPin (number PinFormat))
+readBlock b = cond (wellFormed (nibbles b)) (found (pinOf (nibbles b))) (noPin (number PinFormat))
 
 unfoldable pub readPin : List ℕ → PinRead
 readPin b = cond (blockFits b) (readBlock b) (noPin (number Input))

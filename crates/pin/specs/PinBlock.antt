@@ -12,9 +12,9 @@ unfoldable pub pinFits : ℕ → ℕ → List ℕ → Bool
 pinFits f n s = leb 4 n && (leb n 12 && digits f n s)
 
 -- bytes to half-bytes
-unfoldable pub halves : List ℕ → List ℕ
-halves [] = []
-halves (b ∷ s) = b / 16 ∷ b % 16 ∷ halves s
+unfoldable pub nibbles : List ℕ → List ℕ
+nibbles [] = []
+nibbles (b ∷ s) = b / 16 ∷ b % 16 ∷ nibbles s
 
 -- written: C, which is 2, then N, the digits, and f to the end
 unfoldable pub fields : List ℕ → List ℕ

@@ -5,7 +5,7 @@ ghost use mathlib.Core.List.{_++_, map};
 ghost use Prim.Native.Nat.{_+_, _-_, _*_, _%_, _≤_};
 ghost use lib.ListN.{length, take, drop, replicate};
 ghost use Rattle.octets.specs.Digits.{pairs};
-ghost use Rattle.pin.specs.PinBlock.{pinFits, halves, fields, pinBlock, wellFormed};
+ghost use Rattle.pin.specs.PinBlock.{pinFits, nibbles, fields, pinBlock, wellFormed};
 ghost use Rattle.pin.specs.CounterBlock.{counterBlock, countersOf};
 ghost use Rattle.pin.specs.Answers.{noPin, writePin, readBlock, readPin, encipherPin, decipherPin};
 use answers::BlockAnswer;
@@ -89,7 +89,7 @@ fn join(h: [u8; 16]) -> [u8; 8]
 
 // Bytes to half-bytes.
 fn split(b: [u8; 8]) -> [u8; 16]
-    ensures { λ r. ⌜ r ≡ halves b ⌝ }
+    ensures { λ r. ⌜ r ≡ nibbles b ⌝ }
 {
     [
         b[0] / 16,

@@ -3,14 +3,14 @@ use Prim.Native.Nat.{ℕ, _-_, _<_}
 use native.Mathlib.Omega.{arith}
 use borrow.Author.Needs.{needs}
 use Rattle.lps.specs.Vectors.{X}
-use Rattle.lps.specs.Inner.{firstOf, Skipped}
+use Rattle.lps.specs.Inner.{firstWord, Skipped}
 use Rattle.lps.proofs.Columns.{Made, Rest, first-fits, made-start, made-next, made-done, rest-of, rest-eight, length-X}
 use Rattle.lps.proofs.turn_from.Statement.{statement}
 use Rattle.lps.proofs.turn_from.Tie as tie
 
 abbrev Inv-loop : tie.InvT-loop
 Inv-loop s₀ b upper x₀ u v w k₀ s x k =
-    Made (firstOf upper) s₀ (X s₀ b) (length-X s₀ b) s x k × Rest (firstOf upper) s₀ (X s₀ b) (length-X s₀ b) u v w
+    Made (firstWord upper) s₀ (X s₀ b) (length-X s₀ b) s x k × Rest (firstWord upper) s₀ (X s₀ b) (length-X s₀ b) u v w
 
 abbrev μ-loop : tie.MeasureT-loop
 μ-loop s₀ b upper x₀ u v w k₀ s x k = 8 - k
@@ -24,7 +24,7 @@ loop-holds c =
     let a = c .before .before .before .before .before .before .before .before .before .before .before .before .before .args in
     let s = a .s .now in
     let b = a .b .now in
-    let t = firstOf (a .upper) in
+    let t = firstWord (a .upper) in
     let z = c .skip .last .0 in
     let e = c .skip .ensures .0 in (
       subst (λ (k : ℕ). Made t s (X s b) (length-X s b) s z k) (sym e)
@@ -48,7 +48,7 @@ loop-again c =
     let s = a .s .now in
     let b = a .b .now in
     let h : l .k < 8 = search needs in (
-      made-next (firstOf (a .upper)) s (X s b) (length-X s b) (first .result) (second .result) (third .result) (l .s) (l .x) (c .column .last .0) (l .k) (c .column .result) h
+      made-next (firstWord (a .upper)) s (X s b) (length-X s b) (first .result) (second .result) (third .result) (l .s) (l .x) (c .column .last .0) (l .k) (c .column .result) h
           (l .inv .1) (l .inv .0) (c .column .ensures .0) (c .column .ensures .1),
       l .inv .1,
     )
@@ -57,7 +57,7 @@ returns : tie.Need-returns Inv-loop μ-loop
 returns c =
     let l = c .before .loop in
     let a = c .before .before .before .before .before .before .before .before .before .before .before .before .before .before .before .args in
-    made-done (firstOf (a .upper)) (a .s .now) (X (a .s .now) (a .b .now)) (length-X (a .s .now) (a .b .now)) (l .s) (l .x) (l .k) (omega arith) (l .inv .0)
+    made-done (firstWord (a .upper)) (a .s .now) (X (a .s .now) (a .b .now)) (length-X (a .s .now) (a .b .now)) (l .s) (l .x) (l .k) (omega arith) (l .inv .0)
 
 pub turn-from-spec : {M : Type 1} → statement M
 turn-from-spec =

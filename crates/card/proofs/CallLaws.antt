@@ -61,22 +61,14 @@ use Rattle.card.specs.Words.{Fits}
 use Rattle.card.specs.Personalise.{blank, personalised}
 
 -- what is pending laid over what is kept
-abbrev pinLaid : Card → Transaction → Card
-pinLaid r t = withKept r (record { pin = settled t (kept r) .pin; count = settled t (kept r) .count; mark = r .mark })
+module _ (r : Card) (t : Transaction) (b : Bool) (e : b ≡ markAfter (t .mark) (r .mark)) where
+  pub laid-none : t .count ≡ 0 → withKept r (record { pin = r .pin; count = r .count; mark = b }) ≡ withKept r (settled t (kept r))
+  unfolding settled
+  laid-none h = rw (e, eq-eqb _ _ h)
 
-pub laid-none : (r : Card) (t : Transaction) → t .count ≡ 0 → r ≡ pinLaid r t
-unfolding settled
-laid-none r t h = rw (eq-eqb _ _ h)
-
-pub laid-some : (r : Card) (t : Transaction) → (t .count ≡ 0 → ⊥) → withKept r (record { pin = t .pin; count = t .count; mark = r .mark }) ≡ pinLaid r t
-unfolding settled
-laid-some r t h = rw (ne-eqb _ _ h)
-
-pub lay-done : (r d : Card) (t : Transaction) (b : Bool) → d ≡ pinLaid r t → b ≡ markAfter (t .mark) (d .mark)
-    → withKept d (record { pin = d .pin; count = d .count; mark = b }) ≡ withKept r (settled t (kept r))
-unfolding settled
-lay-done r d t b e f =
-    ap₂ (λ (x : Card) (y : Bool). withKept x (record { pin = x .pin; count = x .count; mark = y })) e (f ∙ ap (λ (x : Card). markAfter (t .mark) (x .mark)) e)
+  pub laid-some : (t .count ≡ 0 → ⊥) → withKept r (record { pin = t .pin; count = t .count; mark = b }) ≡ withKept r (settled t (kept r))
+  unfolding settled
+  laid-some h = rw (e, ne-eqb _ _ h)
 
 -- the keys, the ARPC and the counter block: by the answers of the crates below
 length-seed : (atc : ℕ) → length (sessionSeed atc) ≡ 8

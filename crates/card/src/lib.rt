@@ -58,12 +58,11 @@ fn is_sound(c: Card) -> bool
     if !pin::pin_fits(&p, c.count as usize, 0) {
         return false;
     }
-    let t = c.transaction;
-    let q = t.pin;
-    if !transaction::pending_fits(q, t.count) {
+    let q = c.transaction.pin;
+    if !transaction::pending_fits(q, c.transaction.count) {
         return false;
     }
-    transaction::rest_fits(t)
+    transaction::rest_fits(c.transaction)
 }
 
 // A refusal, or an acceptance without bytes.
@@ -82,13 +81,11 @@ fn plainly(card: Card, code: u8) -> Reply
 fn spoiled(mut c: Card, code: u8) -> Reply
     ensures { λ r. ⌜ r ≡ plain (withTransaction c (spoiltOf (c .transaction))) code ⌝ }
 {
-    let mut t = c.transaction;
-    t.spoilt = true;
-    c.transaction = t;
+    c.transaction.spoilt = true;
     plainly(c, code)
 }
 
-// The session keys of the transaction: for cryptograms, for codes, for secrecy. Each by the words of its master key, where they are lent.
+// The session key for cryptograms, by the words of its master key where they are lent.
 fn session_key(c: Card, ac: &[u64]) -> [u8; 32]
     ensures { λ r. ⌜ (Fits (now (ac .entry)) (c .ac) → r ≡ sessionKeyOf c) ⌝ }
 {
@@ -101,7 +98,7 @@ fn session_key(c: Card, ac: &[u64]) -> [u8; 32]
     r.bytes
 }
 
-// The key of a script by its master key, or by the words of that key.
+// The key of a script, for its code or for secrecy, by its master key, or by the words of that key.
 fn script_key(master: [u8; 32], words: &[u64], cryptogram: [u8; 8]) -> [u8; 32]
     ensures { λ r. ⌜ (Fits (now (words .entry)) master → r ≡ derived master cardLabel cryptogram) ⌝ }
 {
@@ -113,31 +110,12 @@ fn script_key(master: [u8; 32], words: &[u64], cryptogram: [u8; 8]) -> [u8; 32]
     r.bytes
 }
 
-fn smi_key(c: Card, smi: &[u64]) -> [u8; 32]
-    ensures { λ r. ⌜ (Fits (now (smi .entry)) (c .smi) → r ≡ smiKey c) ⌝ }
-{
-    let master = c.smi;
-    let t = c.transaction;
-    let g = t.cryptogram;
-    script_key(master, smi, g)
-}
-
-fn smc_key(c: Card, smc: &[u64]) -> [u8; 32]
-    ensures { λ r. ⌜ (Fits (now (smc .entry)) (c .smc) → r ≡ smcKey c) ⌝ }
-{
-    let master = c.smc;
-    let t = c.transaction;
-    let g = t.cryptogram;
-    script_key(master, smc, g)
-}
-
 // The ARPC that the card expects, under its session key.
 fn arpc_for(c: Card, key: [u8; 32], csu: &[u8]) -> [u8; 8]
     requires { ⌜ length (now csu) ≡ 4 ⌝ }
     ensures { λ r. ⌜ (key ≡ sessionKeyOf c → r ≡ arpcFor c (now (csu .entry))) ⌝ }
 {
-    let t = c.transaction;
-    let g = t.cryptogram;
+    let g = c.transaction.cryptogram;
     let r = cryptogram::arpc(&key, &g, csu);
     r.bytes
 }
@@ -149,16 +127,17 @@ fn counters_for(c: Card, ac: &[u64]) -> [u8; 8]
     let session = session_key(c, ac);
     let k = keys::counter_key(&session);
     let key = k.bytes;
-    let n = c.counters;
-    let block = pin::write_counters(n);
+    let block = pin::write_counters(c.counters);
     let r = cipher::encipher(&key, &block);
     r.bytes
 }
 
-// What is pending laid over what is kept: the PIN, then the mark.
-fn laid_pin(mut c: Card, t: Transaction) -> Card
-    ensures { λ r. ⌜ r ≡ withKept c (record { pin = settled t (kept c) .pin; count = settled t (kept c) .count; mark = c .mark }) ⌝ }
+// What is pending laid over what is kept: the mark and the PIN.
+fn lay(mut c: Card, t: Transaction) -> Card
+    ensures { λ r. ⌜ r ≡ withKept c (settled t (kept c)) ⌝ }
 {
+    let mark = t.mark;
+    c.mark = transaction::mark_after(mark, c.mark);
     if t.count == 0 {
         return c;
     }
@@ -168,24 +147,14 @@ fn laid_pin(mut c: Card, t: Transaction) -> Card
     c
 }
 
-fn lay(c: Card, t: Transaction) -> Card
-    ensures { λ r. ⌜ r ≡ withKept c (settled t (kept c)) ⌝ }
-{
-    let mut d = laid_pin(c, t);
-    let mark = t.mark;
-    d.mark = transaction::mark_after(mark, d.mark);
-    d
-}
-
 // An accepted Open, of a record whose counters can grow.
 fn opened(mut c: Card, ac: &[u64], input: &[u8]) -> Reply
     requires { ⌜ (c .atc < 65535) × ((c .counters .session < 65535) × (length (now input) ≡ 65)) ⌝ }
     ensures { λ r. ⌜ (Fits (now (ac .entry)) (c .ac) → r ≡ reply (accepted c (Open (now (input .entry)))) (gives c (Open (now (input .entry))))) ⌝ }
 {
     c.atc += 1;
-    let mut n = c.counters;
-    n.session += 1;
-    c.counters = n;
+    let session = c.counters.session + 1;
+    c.counters.session = session;
     let key = session_key(c, ac);
     let kind = transaction::kind_for(c.mark);
     let g = cryptogram::cryptogram(&key, kind, c.atc, input);
@@ -223,7 +192,9 @@ fn take_mark(mut c: Card, set: bool) -> Reply
 fn take_pin(mut c: Card, smc: &[u64], block: &[u8]) -> Reply
     ensures { λ r. ⌜ (Fits (now (smc .entry)) (c .smc) → r ≡ takenAs c (One SetPin) (decipherPin (smcKey c) (now (block .entry)))) ⌝ }
 {
-    let key = smc_key(c, smc);
+    let master = c.smc;
+    let g = c.transaction.cryptogram;
+    let key = script_key(master, smc, g);
     let x = pin::decipher_pin(&key, block);
     if x.code != 0 {
         return spoiled(c, Refusal::PIN_FORMAT);
@@ -264,7 +235,9 @@ fn obey(
     if n.failures == 65535 {
         return spoiled(c, Refusal::COUNTER_FULL);
     }
-    let key = smi_key(c, smi);
+    let master = c.smi;
+    let g = c.transaction.cryptogram;
+    let key = script_key(master, smi, g);
     n.failures += 1;
     c.counters = n;
     if !message::code_fits(&key, header, message) {
@@ -377,8 +350,7 @@ impl Card {
         if self.atc == 65535 {
             return plainly(self, Refusal::COUNTER_FULL);
         }
-        let n = self.counters;
-        if n.session == 65535 {
+        if self.counters.session == 65535 {
             return plainly(self, Refusal::COUNTER_FULL);
         }
         opened(self, ac, input)
@@ -412,9 +384,7 @@ impl Card {
         if !octets::same(arpc, &own) {
             return plainly(self, Refusal::ARPC_DIFFERS);
         }
-        let mut n = self.counters;
-        n.session = 0;
-        self.counters = n;
+        self.counters.session = 0;
         plainly(self, 0)
     }
 

@@ -1,13 +1,16 @@
 use Rattle.card.proofs.CallLaws.{pin-no, pin-yes}
+use Rattle.card.specs.Keys.{smcKey}
 use borrow.Author.Needs.{needs}
 use Rattle.card.proofs.take_pin.Statement.{statement}
 use Rattle.card.proofs.take_pin.Tie as tie
 
 returns : tie.Need-returns
-returns c = λ fits. let e = c .before .before .before .before .before .smc-key .ensures fits in search pin-no
+unfolding smcKey
+returns c = λ fits. let e = c .before .before .before .before .before .script-key .ensures fits in search pin-no
 
 returns-2 : tie.Need-returns-2
-returns-2 c = λ fits. let e = c .before .before .before .before .before .before .before .smc-key .ensures fits in search pin-yes
+unfolding smcKey
+returns-2 c = λ fits. let e = c .before .before .before .before .before .before .before .script-key .ensures fits in search pin-yes
 
 pub take-pin-spec : {M : Type 1} → statement M
 take-pin-spec =

@@ -1,15 +1,15 @@
 -- Vectors read from words that are lent, and words written over them. Assumes nothing.
 use mathlib.Core.Path.{_≡_, sym, ap, ap₂, _∙_}
-use mathlib.Core.List.{List, _++_}
+use mathlib.Core.List.{List, [], _∷_, _++_}
 use Prim.Native.Nat.{ℕ, _+_, _-_, _≤_, _<_}
 use native.Mathlib.Omega.{arith}
 use borrow.Author.Tests.{le-leb, lt-leb}
 use lib.Bits.{bitXor}
 use lib.ListN.{length, getD, take, drop, replicate, length-append, length-replicate}
-use lib.Seq.{paste, getD-take, take-at, drop-at, take-all, drop-append-add}
+use lib.Seq.{paste, getD-take, getD-drop, take-at, drop-at, take-all, drop-append-add}
 use Rattle.octets.proofs.Parts.{zeros, drop-zeros, elements, elements-part}
 use Rattle.lps.specs.Vectors.{X}
-use Rattle.lps.proofs.Each.{each-equal}
+use Rattle.lps.proofs.Each.{each-equal, each-at}
 use Rattle.rounds.specs.Lent.{vectorAt, laidWords}
 
 module _ (b : List ℕ) (p : ℕ) where
@@ -21,8 +21,11 @@ module _ (b : List ℕ) (p : ℕ) where
   unfolding vectorAt
   vector-none h = simp (lt-leb _ _ h)
 
-  pub vector-read : p + 8 ≤ length b → elements b p 0 8 ≡ vectorAt b p
-  vector-read h = sym (vector-at h ∙ elements-part b p 8 h)
+  pub vector-length : p + 8 ≤ length b → length (vectorAt b p) ≡ 8
+  vector-length h = ap length (vector-at h ∙ elements-part b p 8 h)
+
+  pub vector-word : (i : ℕ) → p + 8 ≤ length b → i < 8 → getD b (p + i) 0 ≡ getD (vectorAt b p) i 0
+  vector-word i h l = sym (ap (λ (v : List ℕ). getD v i 0) (vector-at h) ∙ getD-take 8 (drop p b) i 0 l ∙ getD-drop p b i 0)
 
   -- X takes the first eight words
   pub X-at : (m : List ℕ) → p + 8 ≤ length b → X (vectorAt b p) m ≡ X (drop p b) m
@@ -41,6 +44,16 @@ module _ (b : List ℕ) (p : ℕ) where
     pub laid-not : length b < p + length w → b ≡ laidWords b p w
     unfolding laidWords
     laid-not h = simp (lt-leb _ _ h)
+
+-- a sum is made word by word
+pub sum-turn : (a b : List ℕ) (i : ℕ) → i < 8 → bitXor (getD a i 0) (getD b i 0) ≡ getD (X a b) i 0
+unfolding X
+sum-turn a b i h = sym (each-at (λ j. bitXor (getD a j 0) (getD b j 0)) i h)
+
+-- the upper half of a sum
+pub upper-words : (x a b : List ℕ) → x ≡ X a b → getD x 4 0 ∷ getD x 5 0 ∷ getD x 6 0 ∷ getD x 7 0 ∷ [] ≡ drop 4 (X a b)
+unfolding X
+upper-words x a b e = ap (λ (v : List ℕ). getD v 4 0 ∷ getD v 5 0 ∷ getD v 6 0 ∷ getD v 7 0 ∷ []) e
 
 -- words put one after the other over zeros
 pub laid-zeros : (x w : List ℕ) (p n k : ℕ) → length x ≡ p → length w ≡ n → n ≤ k → laidWords (x ++ zeros k) p w ≡ x ++ w ++ zeros (k - n)

@@ -20,16 +20,13 @@ use lps::turn_upper;
 fn xor(a: [u64; 8], b: [u64; 8]) -> [u64; 8]
     ensures { λ r. ⌜ r ≡ X a b ⌝ }
 {
-    [
-        a[0] ^ b[0],
-        a[1] ^ b[1],
-        a[2] ^ b[2],
-        a[3] ^ b[3],
-        a[4] ^ b[4],
-        a[5] ^ b[5],
-        a[6] ^ b[6],
-        a[7] ^ b[7],
-    ]
+    let mut r = [0; 8];
+    let mut i = 0;
+    while i < 8 {
+        r[i] = a[i] ^ b[i];
+        i += 1;
+    }
+    r
 }
 
 // The vector from word p on; where the words end before, zeros.
@@ -42,16 +39,13 @@ pub fn vector(b: &[u64], p: usize) -> [u64; 8]
     if b.len() - 8 < p {
         return [0; 8];
     }
-    [
-        b[p],
-        b[p + 1],
-        b[p + 2],
-        b[p + 3],
-        b[p + 4],
-        b[p + 5],
-        b[p + 6],
-        b[p + 7],
-    ]
+    let mut r = [0; 8];
+    let mut i = 0;
+    while i < 8 {
+        r[i] = b[p + i];
+        i += 1;
+    }
+    r
 }
 
 // Words written from word p on; where they do not fit, none is.
@@ -147,12 +141,8 @@ pub fn compress_over(c: &[[u64; 8]], n: [u64; 8], h: [u64; 8], m: [u64; 8]) -> [
 fn upper_sum(k: [u64; 8], s: [u64; 8], h: [u64; 8], m: [u64; 8]) -> [u64; 4]
     ensures { λ r. ⌜ r ≡ drop 4 (X (X (X k s) h) m) ⌝ }
 {
-    [
-        k[4] ^ s[4] ^ h[4] ^ m[4],
-        k[5] ^ s[5] ^ h[5] ^ m[5],
-        k[6] ^ s[6] ^ h[6] ^ m[6],
-        k[7] ^ s[7] ^ h[7] ^ m[7],
-    ]
+    let x = xor(xor(xor(k, s), h), m);
+    [x[4], x[5], x[6], x[7]]
 }
 
 // The upper four words of g_n(h, m), with a round for each of the constants c: in the last round the upper half is made, and no more.

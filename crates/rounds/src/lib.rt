@@ -141,8 +141,9 @@ pub fn compress_over(c: &[[u64; 8]], n: [u64; 8], h: [u64; 8], m: [u64; 8]) -> [
 fn upper_sum(k: [u64; 8], s: [u64; 8], h: [u64; 8], m: [u64; 8]) -> [u64; 4]
     ensures { λ r. ⌜ r ≡ drop 4 (X (X (X k s) h) m) ⌝ }
 {
-    let x = xor(xor(xor(k, s), h), m);
-    [x[4], x[5], x[6], x[7]]
+    let x = xor(k, s);
+    let y = xor(xor(x, h), m);
+    [y[4], y[5], y[6], y[7]]
 }
 
 // The upper four words of g_n(h, m), with a round for each of the constants c: in the last round the upper half is made, and no more.

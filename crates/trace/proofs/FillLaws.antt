@@ -109,6 +109,22 @@ module _ (s : List ℕ) (u : Trace) (k : ℕ) (f : Fed) (q : f ≡ fed u (take (
       let o : 0 < x .size = x .some g in
       (omega arith, omega arith)
 
+-- what a turn has room for, and that it takes something
+pub record Turn (s d : List ℕ) (k w : ℕ) (f : Fed) : Type 0 where
+  pub few : f .count ≤ 21
+  pub fits : w + f .count ≤ length d
+  pub within : k + f .taken ≤ length s
+  pub less : length s - (k + f .taken) < length s - k
+
+pub turn-fits : (t : Trace) (s d₀ d : List ℕ) (u : Trace) (k w : ℕ) (f : Fed) → At t s d₀ d u k w → k < length s → 21 ≤ length d - w
+    → f ≡ fed u (take (length s - k) (drop k s)) → length (f .answer) ≡ 21 → Turn s d k w f
+turn-fits t s d₀ d u k w f a l r q n =
+    let c : f .count ≤ 21 = turn-count s u k f q n in
+    let x : (k + f .taken ≤ length s) × (0 < f .taken) = turn-taken s u k f q l in
+    let y = x .0 in
+    let z = x .1 in
+    record { few = c; fits = omega (arith, a .written); within = y; less = omega arith }
+
 -- a turn: a line is fed, and its answer is written
 pub at-turn : (t : Trace) (s d₀ d e : List ℕ) (u : Trace) (k w n : ℕ) (f : Fed) → At t s d₀ d u k w → k < length s → 21 ≤ length d - w
     → f ≡ fed u (take (length s - k) (drop k s)) → n ≡ f .count → n ≤ length (f .answer) → n ≤ 21 → e ≡ paste d w (f .answer) n

@@ -13,7 +13,7 @@ ghost use Rattle.card.specs.Record.{masters};
 ghost use Rattle.card.specs.Words.{FitAll};
 ghost use Rattle.lines.specs.Said.{longestAnswer};
 ghost use Rattle.trace.specs.Feeding.{begun, fed, completed, ended, filling, Fills};
-ghost use Rattle.trace.specs.Inner.{noWords, Holds, Ready, leftOf, Turns};
+ghost use Rattle.trace.specs.Inner.{Holds, Ready, leftOf, Turns};
 
 // A trace read so far: the record, and the current line up to one sign more than the longest.
 pub struct Trace {
@@ -50,25 +50,13 @@ struct Turned {
     have: Words,
 }
 
-// No words.
-fn no_words() -> Words
-    ensures { λ r. ⌜ r ≡ noWords ⌝ }
-{
-    Words {
-        ac: 0,
-        smi: 0,
-        smc: 0,
-    }
-}
-
 // The line of a trace is completed and answered, by the words of its record's keys that are lent.
 fn complete(t: Trace, ac: &[u64], smi: &[u64], smc: &[u64], taken: usize) -> Fed
     requires { ⌜ FitAll (now ac) (now smi) (now smc) (masters (t .held .card)) ⌝ }
     ensures { λ r. ⌜ r ≡ completed t taken ⌝ }
 {
-    let held = t.held;
     let line = t.line;
-    let s = frames::answer_kept(held, ac, smi, smc, line, t.count);
+    let s = frames::answer_kept(t.held, ac, smi, smc, line, t.count);
     let after = s.held;
     let text = s.answer;
     Fed {
@@ -164,18 +152,6 @@ fn sign(text: &[u8], at: usize) -> u8 {
     0
 }
 
-// Words written over as many.
-fn put_words(words: &mut [u64], made: [u64; KEPT_WORDS])
-    requires { ⌜ length (now words) ≡ 256 ⌝ }
-    ensures { λ _. ⌜ now (words .exit) ≡ made ⌝ }
-{
-    let mut i = 0;
-    while i < KEPT_WORDS {
-        words[i] = made[i];
-        i += 1;
-    }
-}
-
 // The words of a master key, made where they are used and there are none; and how many there are.
 fn keep(words: &mut [u64], have: usize, used: bool, key: [u8; 32]) -> usize
     requires { ⌜ Holds (now words) have key ⌝ }
@@ -187,7 +163,12 @@ fn keep(words: &mut [u64], have: usize, used: bool, key: [u8; 32]) -> usize
     if !used {
         return 0;
     }
-    put_words(words, derive::keep(key));
+    let made = derive::keep(key);
+    let mut i = 0;
+    while i < KEPT_WORDS {
+        words[i] = made[i];
+        i += 1;
+    }
     KEPT_WORDS
 }
 
@@ -241,7 +222,11 @@ fn left(have: Words, high: u8, low: u8) -> Words
     ensures { λ r. ⌜ r ≡ leftOf have high low ⌝ }
 {
     if lines::octet_of(high, low) == 0 {
-        return no_words();
+        return Words {
+            ac: 0,
+            smi: 0,
+            smc: 0,
+        };
     }
     have
 }
@@ -258,9 +243,7 @@ fn turn(
     requires { ⌜ Ready (now ac) (now smi) (now smc) have (masters (t .held .card)) ⌝ }
     ensures { λ r. ⌜ Turns (fed t (now (input .entry))) (now (ac .exit)) (now (smi .exit)) (now (smc .exit)) r ⌝ }
 {
-    let held = t.held;
-    let card = held.card;
-    let used = keep_used(card, ac, smi, smc, have, input);
+    let used = keep_used(t.held.card, ac, smi, smc, have, input);
     let a = used.ac;
     let b = used.smi;
     let c = used.smc;
@@ -279,7 +262,11 @@ pub fn feed_into(t: Trace, input: &[u8], out: &mut [u8]) -> Filled
     let mut ac = [0; KEPT_WORDS];
     let mut smi = [0; KEPT_WORDS];
     let mut smc = [0; KEPT_WORDS];
-    let mut have = no_words();
+    let mut have = Words {
+        ac: 0,
+        smi: 0,
+        smc: 0,
+    };
     let mut after = t;
     let mut taken = 0;
     let mut written = 0;
@@ -288,13 +275,12 @@ pub fn feed_into(t: Trace, input: &[u8], out: &mut [u8]) -> Filled
             break;
         }
         let r = turn(after, &mut ac, &mut smi, &mut smc, have, &input[taken..]);
-        let f = r.fed;
-        let n = f.count as usize;
-        let text = f.answer;
+        let n = r.fed.count as usize;
+        let text = r.fed.answer;
         put(out, written, text, n);
         have = r.have;
-        after = f.trace;
-        taken += f.taken;
+        after = r.fed.trace;
+        taken += r.fed.taken;
         written += n;
     }
     Filled {

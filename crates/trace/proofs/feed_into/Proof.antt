@@ -6,7 +6,7 @@ use borrow.Author.Needs.{needs}
 use Rattle.card.specs.Record.{masters}
 use Rattle.trace.specs.Inner.{Ready}
 use Rattle.trace.proofs.KeptLaws.{ready-start, ready-next}
-use Rattle.trace.proofs.FillLaws.{At, at-first, at-turn, fills-end, fills-full, turn-count, turn-taken}
+use Rattle.trace.proofs.FillLaws.{At, at-first, at-turn, fills-end, fills-full, turn-fits}
 use Rattle.trace.proofs.feed_into.Statement.{statement}
 use Rattle.trace.proofs.feed_into.Tie as tie
 
@@ -19,67 +19,65 @@ abbrev μ-loop : tie.MeasureT-loop
     length input - taken
 
 loop-holds : tie.Need-loop-holds Inv-loop μ-loop
-loop-holds c = (at-first _ _ _, omega arith, omega arith, ready-start _ _ _ _ _ (c .no-words .ensures) (search needs) (search needs) (search needs))
+loop-holds c = (at-first _ _ _, omega arith, omega arith, ready-start _ _ _ _ _ refl (search needs) (search needs) (search needs))
 
 turn-requires : tie.Need-turn-requires Inv-loop μ-loop
 turn-requires c κs = c .before .before .before .before .before .before .loop .inv .3
 
 put-requires : tie.Need-put-requires Inv-loop μ-loop
 put-requires c κs =
-    let f = c .before .before .before .before .before .before .before .turn in
-    let l = c .before .before .before .before .before .before .before .before .before .before .before .before .before .before .loop in
-    let s = c .before .before .before .before .before .before .before .before .before .before .before .before .before .before .before .before .before .before .args .input .now in
-    let q = f .ensures .long in
-    let test = c .before .before .before .before .before .before .before .before .before .before .before .before .before .loop-test .taken in
-    let room = c .before .before .before .before .before .before .before .before .before .before .before .before .if1 .left in
-    let n : f .result .fed .count ≤ 21 = turn-count s (l .after) (l .taken) (f .result .fed) (f .ensures .feeds) q in
-    (omega (arith, l .inv .0 .written), n)
+    let e = c .before .before .before .before .before .before in
+    let l = e .before .before .before .before .before .before .before .loop in
+    let s = e .before .before .before .before .before .before .before .before .before .before .args .input .now in
+    let f = e .turn .result .fed in
+    let test = e .before .before .before .before .before .before .loop-test .taken in
+    let room = e .before .before .before .before .before .if1 .left in
+    let g = turn-fits _ s _ _ (l .after) (l .taken) (l .written) f (l .inv .0) test room (e .turn .ensures .feeds) (e .turn .ensures .long) in
+    (g .fits, g .few)
 
 add-taken : tie.Need-add-taken Inv-loop μ-loop
 add-taken c =
-    let f = c .before .before .before .before .before .before .before .before .before .before .before .before .before .turn in
-    let l = c .before .before .before .before .before .before .before .before .before .before .before .before .before .before .before .before .before .before .before .before .loop in
-    let s = c .before .before .before .before .before .before .before .before .before .before .before .before .before .before .before .before .before .before .before .before .before .before .before .before .args .input .now in
-    let q = f .ensures .long in
-    let test = c .before .before .before .before .before .before .before .before .before .before .before .before .before .before .before .before .before .before .before .loop-test .taken in
-    let room = c .before .before .before .before .before .before .before .before .before .before .before .before .before .before .before .before .before .before .if1 .left in
-    let n : f .result .fed .count ≤ 21 = turn-count s (l .after) (l .taken) (f .result .fed) (f .ensures .feeds) q in
-    let u = turn-taken s (l .after) (l .taken) (f .result .fed) (f .ensures .feeds) (omega arith) in
-    omega (arith, u .0, l .inv .1)
+    let e = c .before .before .before .before .before .before .before .before .before .before .before .before in
+    let l = e .before .before .before .before .before .before .before .loop in
+    let s = e .before .before .before .before .before .before .before .before .before .before .args .input .now in
+    let f = e .turn .result .fed in
+    let test = e .before .before .before .before .before .before .loop-test .taken in
+    let room = e .before .before .before .before .before .if1 .left in
+    let g = turn-fits _ s _ _ (l .after) (l .taken) (l .written) f (l .inv .0) test room (e .turn .ensures .feeds) (e .turn .ensures .long) in
+    omega (arith, g .within, l .inv .1)
 
 add-written : tie.Need-add-written Inv-loop μ-loop
 add-written c =
-    let f = c .before .before .before .before .before .before .before .before .before .before .before .before .before .turn in
-    let l = c .before .before .before .before .before .before .before .before .before .before .before .before .before .before .before .before .before .before .before .before .loop in
-    let s = c .before .before .before .before .before .before .before .before .before .before .before .before .before .before .before .before .before .before .before .before .before .before .before .before .args .input .now in
-    let q = f .ensures .long in
-    let test = c .before .before .before .before .before .before .before .before .before .before .before .before .before .before .before .before .before .before .before .loop-test .taken in
-    let room = c .before .before .before .before .before .before .before .before .before .before .before .before .before .before .before .before .before .before .if1 .left in
-    let n : f .result .fed .count ≤ 21 = turn-count s (l .after) (l .taken) (f .result .fed) (f .ensures .feeds) q in
-    omega (arith, l .inv .0 .written, l .inv .0 .room, l .inv .2)
+    let e = c .before .before .before .before .before .before .before .before .before .before .before .before in
+    let l = e .before .before .before .before .before .before .before .loop in
+    let s = e .before .before .before .before .before .before .before .before .before .before .args .input .now in
+    let f = e .turn .result .fed in
+    let test = e .before .before .before .before .before .before .loop-test .taken in
+    let room = e .before .before .before .before .before .if1 .left in
+    let g = turn-fits _ s _ _ (l .after) (l .taken) (l .written) f (l .inv .0) test room (e .turn .ensures .feeds) (e .turn .ensures .long) in
+    omega (arith, g .fits, l .inv .0 .room, l .inv .2)
 
 loop-less : tie.Need-loop-less Inv-loop μ-loop
 loop-less c =
-    let f = c .before .before .before .before .before .before .before .before .before .before .before .before .before .turn in
-    let l = c .before .before .before .before .before .before .before .before .before .before .before .before .before .before .before .before .before .before .before .before .loop in
-    let s = c .before .before .before .before .before .before .before .before .before .before .before .before .before .before .before .before .before .before .before .before .before .before .before .before .args .input .now in
-    let q = f .ensures .long in
-    let test = c .before .before .before .before .before .before .before .before .before .before .before .before .before .before .before .before .before .before .before .loop-test .taken in
-    let room = c .before .before .before .before .before .before .before .before .before .before .before .before .before .before .before .before .before .before .if1 .left in
-    let n : f .result .fed .count ≤ 21 = turn-count s (l .after) (l .taken) (f .result .fed) (f .ensures .feeds) q in
-    let u = turn-taken s (l .after) (l .taken) (f .result .fed) (f .ensures .feeds) (omega arith) in
-    omega (arith, u .0, u .1)
+    let e = c .before .before .before .before .before .before .before .before .before .before .before .before in
+    let l = e .before .before .before .before .before .before .before .loop in
+    let s = e .before .before .before .before .before .before .before .before .before .before .args .input .now in
+    let f = e .turn .result .fed in
+    let test = e .before .before .before .before .before .before .loop-test .taken in
+    let room = e .before .before .before .before .before .if1 .left in
+    let g = turn-fits _ s _ _ (l .after) (l .taken) (l .written) f (l .inv .0) test room (e .turn .ensures .feeds) (e .turn .ensures .long) in
+    g .less
 
 loop-again : tie.Need-loop-again Inv-loop μ-loop
 loop-again c =
-    let f = c .before .before .before .before .before .before .before .before .before .before .before .before .before .turn in
-    let l = c .before .before .before .before .before .before .before .before .before .before .before .before .before .before .before .before .before .before .before .before .loop in
-    let s = c .before .before .before .before .before .before .before .before .before .before .before .before .before .before .before .before .before .before .before .before .before .before .before .before .args .input .now in
-    let q = f .ensures .long in
-    let test = c .before .before .before .before .before .before .before .before .before .before .before .before .before .before .before .before .before .before .before .loop-test .taken in
-    let room = c .before .before .before .before .before .before .before .before .before .before .before .before .before .before .before .before .before .before .if1 .left in
-    let n : f .result .fed .count ≤ 21 = turn-count s (l .after) (l .taken) (f .result .fed) (f .ensures .feeds) q in
-    (at-turn _ s _ _ _ (l .after) (l .taken) (l .written) (f .result .fed .count) (f .result .fed) (l .inv .0) (omega arith) (omega arith) (f .ensures .feeds) refl (omega arith) n (c .before .before .before .before .before .put .ensures), l .inv .1, l .inv .2, ready-next (f .ensures .feeds) (f .ensures .ready))
+    let e = c .before .before .before .before .before .before .before .before .before .before .before .before in
+    let l = e .before .before .before .before .before .before .before .loop in
+    let s = e .before .before .before .before .before .before .before .before .before .before .args .input .now in
+    let f = e .turn .result .fed in
+    let test = e .before .before .before .before .before .before .loop-test .taken in
+    let room = e .before .before .before .before .before .if1 .left in
+    let g = turn-fits _ s _ _ (l .after) (l .taken) (l .written) f (l .inv .0) test room (e .turn .ensures .feeds) (e .turn .ensures .long) in
+    (at-turn _ s _ _ _ (l .after) (l .taken) (l .written) (f .count) f (l .inv .0) test room (e .turn .ensures .feeds) refl (rw (e .turn .ensures .long) (g .few)) (g .few) (c .before .before .before .before .before .put .ensures), l .inv .1, l .inv .2, ready-next (e .turn .ensures .feeds) (e .turn .ensures .ready))
 
 same-length : tie.Need-same-length Inv-loop μ-loop
 same-length c = c .before .loop .inv .0 .room
@@ -99,7 +97,6 @@ feed-into-spec =
     (tie.spec
     Inv-loop
     μ-loop
-    (λ c κs. search needs)
     loop-holds
     (λ c. search needs)
     (λ c. search needs)

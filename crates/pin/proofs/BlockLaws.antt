@@ -1,8 +1,8 @@
 -- Half-bytes and bytes, what the tests of a PIN and of a block say, and the loops over half-bytes. Assumes nothing.
-use mathlib.Core.Path.{_≡_, refl, sym, ap, ap₂, _∙_}
+use mathlib.Core.Path.{_≡_, refl, sym, ap, ap₂, subst, _∙_}
 use mathlib.Core.Bool.{Bool, true, false, _&&_, and-false, and-eq-true-iff}
 use mathlib.Core.List.{List, [], _∷_, _++_, map}
-use Prim.Native.Nat.{ℕ, zero, suc, _+_, _-_, _%_, _≤_, _<_, suc-le-suc, zero-le}
+use Prim.Native.Nat.{ℕ, zero, suc, _+_, _-_, _*_, _/_, _%_, _≤_, _<_, suc-le-suc, zero-le}
 use native.Mathlib.Omega.{arith}
 use borrow.Author.Tests.{eqb-true, leb-true, eq-eqb, ne-eqb, le-leb, lt-leb}
 use lib.Dec.{leb, eqb}
@@ -11,8 +11,54 @@ use lib.Seq.{paste, take-all, drop-drop}
 use Rattle.octets.specs.Numbers.{Octets}
 use Rattle.octets.specs.Digits.{digits, pairs}
 use Rattle.octets.proofs.DigitLaws.{digits-at}
-use Rattle.octets.proofs.Parts.{elements-all, drop-replicate}
+use Rattle.octets.proofs.Parts.{elements, elements-all, drop-replicate}
 use Rattle.pin.specs.PinBlock.{pinFits, nibbles, fields, wellFormed}
+
+-- ---- half-bytes and bytes, one by one
+
+joined-word : (s : List ℕ) (i : ℕ) → i < 8
+    → 16 * (getD (elements s 0 0 16) (2 * i) 0 % 16) + getD (elements s 0 0 16) (2 * i + 1) 0 % 16 ≡ getD (pairs 16 (map (λ x. x % 16) (elements s 0 0 16))) i 0
+unfolding pairs
+joined-word s zero h = refl
+joined-word s (suc zero) h = refl
+joined-word s (suc (suc zero)) h = refl
+joined-word s (suc (suc (suc zero))) h = refl
+joined-word s (suc (suc (suc (suc zero)))) h = refl
+joined-word s (suc (suc (suc (suc (suc zero))))) h = refl
+joined-word s (suc (suc (suc (suc (suc (suc zero)))))) h = refl
+joined-word s (suc (suc (suc (suc (suc (suc (suc zero))))))) h = refl
+joined-word s (suc (suc (suc (suc (suc (suc (suc (suc i)))))))) h = absurd (omega arith)
+
+pub joined-at : (s : List ℕ) (i : ℕ) → length s ≡ 16 → i < 8 → 16 * (getD s (2 * i) 0 % 16) + getD s (2 * i + 1) 0 % 16 ≡ getD (pairs 16 (map (λ x. x % 16) s)) i 0
+joined-at s i e h =
+    subst (λ (v : List ℕ). 16 * (getD v (2 * i) 0 % 16) + getD v (2 * i + 1) 0 % 16 ≡ getD (pairs 16 (map (λ x. x % 16) v)) i 0) (sym (elements-all s 16 e))
+    (joined-word s i h)
+
+pub joined-length : (s : List ℕ) → length s ≡ 16 → length (pairs 16 (map (λ x. x % 16) s)) ≡ 8
+unfolding pairs
+joined-length s e = ap (λ (v : List ℕ). length (pairs 16 (map (λ x. x % 16) v))) (elements-all s 16 e)
+
+abbrev Halved : List ℕ → ℕ → Type 0
+Halved s i = (getD s i 0 / 16 ≡ getD (nibbles s) (2 * i) 0) × (getD s i 0 % 16 ≡ getD (nibbles s) (2 * i + 1) 0)
+
+halved-byte : (s : List ℕ) (i : ℕ) → i < 8 → Halved (elements s 0 0 8) i
+unfolding nibbles
+halved-byte s zero h = (refl, refl)
+halved-byte s (suc zero) h = (refl, refl)
+halved-byte s (suc (suc zero)) h = (refl, refl)
+halved-byte s (suc (suc (suc zero))) h = (refl, refl)
+halved-byte s (suc (suc (suc (suc zero)))) h = (refl, refl)
+halved-byte s (suc (suc (suc (suc (suc zero))))) h = (refl, refl)
+halved-byte s (suc (suc (suc (suc (suc (suc zero)))))) h = (refl, refl)
+halved-byte s (suc (suc (suc (suc (suc (suc (suc zero))))))) h = (refl, refl)
+halved-byte s (suc (suc (suc (suc (suc (suc (suc (suc i)))))))) h = absurd (omega arith)
+
+pub halved-at : (s : List ℕ) (i : ℕ) → length s ≡ 8 → i < 8 → (getD s i 0 / 16 ≡ getD (nibbles s) (2 * i) 0) × (getD s i 0 % 16 ≡ getD (nibbles s) (2 * i + 1) 0)
+halved-at s i e h = subst (λ (v : List ℕ). Halved v i) (sym (elements-all s 8 e)) (halved-byte s i h)
+
+pub halved-length : (s : List ℕ) → length s ≡ 8 → length (nibbles s) ≡ 16
+unfolding nibbles
+halved-length s e = ap (λ (v : List ℕ). length (nibbles v)) (elements-all s 8 e)
 
 -- ---- what the tests say
 

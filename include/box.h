@@ -53,7 +53,7 @@ uint8_t box_card_key(const uint8_t *issuer, size_t issuer_length, const uint8_t 
                      uint8_t *out, size_t out_length);
 
 /* The same with the card digits as packed decimal, for a bank whose host packs them: another key for the same card, and the reading by which
- * the master keys published in R 1323565.1.010 come out (docs/DECISIONS.md, 1). out: 32. Refusals 1, 2. */
+ * the master keys published in R 1323565.1.010 come out (docs/DECISIONS.md, Card digits, 1). out: 32. Refusals 1, 2. */
 uint8_t box_card_key_packed(const uint8_t *issuer, size_t issuer_length, const uint8_t *pan, size_t pan_length, uint8_t sequence,
                             uint8_t *out, size_t out_length);
 

@@ -19,7 +19,9 @@
     ROW(10, BOX_SPOILT_CLOSED, "the transaction was spoilt, and nothing of it is kept") \
     ROW(11, BOX_ARPC_DIFFERS, "the ARPC differs") \
     ROW(12, BOX_PIN_DIGITS, "the PIN is not 4 to 12 digits") \
-    ROW(13, BOX_UNREADABLE, "the line cannot be read")
+    ROW(13, BOX_UNREADABLE, "the line cannot be read") \
+    ROW(14, BOX_WRONG_PIN, "the PIN is not the kept one") \
+    ROW(15, BOX_NO_TRIES, "no tries are left for a PIN")
 
 #define BOX_NAMED(number, name, words) name = number,
 enum box_refusal {

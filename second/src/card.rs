@@ -28,6 +28,7 @@ pub struct Record {
     pub smi: Key,
     pub smc: Key,
     pub pin: Pin,
+    pub tries: u8,
     pub transaction_counter: u16,
     pub counters: Counters,
     pub blocked: bool,
@@ -37,6 +38,9 @@ pub struct Record {
     pub pending_mark: PendingMark,
     pub spoilt: bool,
 }
+
+/// The tries for a PIN, where none was taken or all were restored (Wish 4).
+pub const ALL_TRIES: u8 = 3;
 
 /// What every call gives: the record after it, and the bytes or the refusal.
 pub type After<T> = (Record, Result<T, Refusal>);
@@ -49,13 +53,14 @@ pub struct Answer {
 
 impl Record {
     /// A fresh record, with no transaction open.
-    pub fn new(keys: [Key; 3], transaction_counter: u16, counters: Counters, blocked: bool, pin: Pin) -> Record {
+    pub fn new(keys: [Key; 3], transaction_counter: u16, counters: Counters, blocked: bool, pin: Pin, tries: u8) -> Record {
         let [ac, smi, smc] = keys;
         Record {
             ac,
             smi,
             smc,
             pin,
+            tries,
             transaction_counter,
             counters,
             blocked,
@@ -69,7 +74,7 @@ impl Record {
 
     pub fn sound(&self) -> bool {
         let pending_good = self.pending_pin == Pin::NONE || self.pending_pin.sound();
-        self.pin.sound() && pending_good && (self.is_open() || self.transaction_is_zero())
+        self.pin.sound() && self.tries <= ALL_TRIES && pending_good && (self.is_open() || self.transaction_is_zero())
     }
 
     pub fn is_open(&self) -> bool {
@@ -202,9 +207,11 @@ impl Record {
         (self, result)
     }
 
+    /// A PIN change restores the tries, also one to the same PIN; a mark does not.
     fn keep_pending(&mut self) {
         if self.pending_pin != Pin::NONE {
             self.pin = self.pending_pin;
+            self.tries = ALL_TRIES;
         }
         match self.pending_mark {
             PendingMark::None => {}
@@ -230,6 +237,31 @@ impl Record {
         });
         (self, result)
     }
+
+    /// PIN check: 6, 1, 15, 7, 9, 14, in both kinds of transaction; no refusal spoils it. What 9 counts and 14 takes stays taken.
+    pub fn check_pin(mut self, block: &[u8]) -> After<()> {
+        let result = self.try_check_pin(block);
+        (self, result)
+    }
+
+    fn try_check_pin(&mut self, block: &[u8]) -> Result<(), Refusal> {
+        self.check_open()?;
+        let block = exact::<8>(block)?;
+        if self.tries == 0 {
+            return Err(Refusal::NoTries);
+        }
+        let counted = self.counters.pin.checked_add(1).ok_or(Refusal::CounterFull)?;
+        let given = self.decipher_pin(&block).map_err(|refusal| {
+            self.counters.pin = counted;
+            refusal
+        })?;
+        if given != self.pin {
+            self.tries -= 1;
+            return Err(Refusal::WrongPin);
+        }
+        self.tries = ALL_TRIES;
+        Ok(())
+    }
 }
 
 #[cfg(test)]
@@ -239,7 +271,7 @@ mod tests {
 
     fn fresh() -> Record {
         let pin = Pin::of_digits(&[1, 2, 3, 4]).unwrap();
-        Record::new([[1; 32], [2; 32], [3; 32]], 7, Counters { session: 1, failure: 2, pin: 3, mutual: 4 }, false, pin)
+        Record::new([[1; 32], [2; 32], [3; 32]], 7, Counters { session: 1, failure: 2, pin: 3, mutual: 4 }, false, pin, 2)
     }
 
     fn opened() -> Record {
@@ -284,6 +316,9 @@ mod tests {
                 records.push(Record { pending_pin: bad, ..base.clone() });
             }
         }
+        for base in [fresh(), opened()] {
+            records.extend([4, 5, 255].map(|tries| Record { tries, ..base.clone() }));
+        }
         let pending_pin = fresh().pin;
         records.push(Record { pending_pin, ..fresh() });
         records.push(Record { pending_mark: PendingMark::Set, ..fresh() });
@@ -307,6 +342,8 @@ mod tests {
             assert_eq!(record.clone().close(), (record.clone(), Err(Refusal::Input)));
             assert_eq!(record.clone().withdraw(), (record.clone(), Err(Refusal::Input)));
             assert_eq!(record.clone().counters(), (record.clone(), Err(Refusal::Input)));
+            assert_eq!(record.clone().check_pin(&[0; 8]), (record.clone(), Err(Refusal::Input)));
+            assert_eq!(record.clone().check_pin(&[]), (record.clone(), Err(Refusal::Input)));
         }
     }
 
@@ -316,6 +353,7 @@ mod tests {
         assert!(Record { blocked: true, ..opened() }.sound());
         assert!(Record { spoilt: true, pending_mark: PendingMark::Set, pending_pin: fresh().pin, ..opened() }.sound());
         assert!(Record { cryptogram: [0; 8], ..opened() }.sound());
+        assert!((0..=3).all(|tries| Record { tries, ..fresh() }.sound() && Record { tries, ..opened() }.sound()));
     }
 
     #[test]
@@ -443,7 +481,7 @@ mod tests {
         assert_eq!((record.pin, record.blocked), (fresh().pin, false));
         let (closed, result) = record.clone().close();
         assert_eq!(result, Ok(()));
-        let wanted = Record { pin: Pin::of_digits(&[9, 8, 7, 6]).unwrap(), blocked: true, ..fresh() };
+        let wanted = Record { pin: Pin::of_digits(&[9, 8, 7, 6]).unwrap(), tries: 3, blocked: true, ..fresh() };
         let counters = Counters { session: 2, ..wanted.counters };
         assert_eq!(closed, Record { transaction_counter: 8, counters, ..wanted });
         let unblocked = accept(record, Command::Unblock, &[]);
@@ -485,5 +523,76 @@ mod tests {
             let key = counter_key(&session_key(&record.ac, 8));
             assert_eq!(Counters::of_block(&decipher(&key, &block.unwrap())), record.counters);
         }
+    }
+
+    /// The block of digits under the record's key for secrecy.
+    fn block_for(record: &Record, digits: &[u8]) -> [u8; 8] {
+        encipher(&script_key(&record.smc, &record.cryptogram), &pin::write(digits).unwrap())
+    }
+
+    /// Open transactions of both kinds, spoilt and not, with another PIN pending and without.
+    fn every_open() -> Vec<Record> {
+        let (aac, _) = Record { blocked: true, ..fresh() }.open(&[0; 65]);
+        let pending_pin = Pin::of_digits(&[5, 5, 5, 5, 5]).unwrap();
+        let each = [opened(), aac].into_iter().flat_map(|record| [record.clone(), Record { pending_pin, ..record }]);
+        each.flat_map(|record| [record.clone(), Record { spoilt: true, ..record }]).collect()
+    }
+
+    #[test]
+    fn pin_checks() {
+        for record in every_open() {
+            let right = block_for(&record, &[1, 2, 3, 4]);
+            assert_eq!(record.clone().check_pin(&right), (Record { tries: 3, ..record.clone() }, Ok(())));
+            // the pending PIN, another digit, one fewer, and places that are the kept ones but for the count
+            for digits in [&[5, 5, 5, 5, 5][..], &[1, 2, 3, 5], &[1, 2, 3, 4, 0], &[1, 2, 3, 4, 0, 0, 0, 0, 0, 0, 0, 0]] {
+                let wrong = block_for(&record, digits);
+                assert_eq!(record.clone().check_pin(&wrong), (Record { tries: 1, ..record.clone() }, Err(Refusal::WrongPin)));
+            }
+            let counted = Counters { pin: 4, ..record.counters };
+            let misformed = encipher(&script_key(&record.smc, &record.cryptogram), &[0x24, 0x12, 0x34, 0x5f, 0xff, 0xff, 0xff, 0xff]);
+            assert_eq!(record.clone().check_pin(&misformed), (Record { counters: counted, ..record.clone() }, Err(Refusal::PinFormat)));
+        }
+    }
+
+    #[test]
+    fn the_order_of_a_checks_refusals() {
+        assert_eq!(fresh().check_pin(&[0; 8]), (fresh(), Err(Refusal::PhaseWrong)));
+        assert_eq!(fresh().check_pin(&[]), (fresh(), Err(Refusal::PhaseWrong)));
+        for record in every_open() {
+            let full = Counters { pin: u16::MAX, ..record.counters };
+            let none_left = Record { tries: 0, counters: full, ..record.clone() };
+            let full = Record { counters: full, ..record.clone() };
+            let right = block_for(&record, &[1, 2, 3, 4]);
+            for length in [0, 7, 9, 16, 264] {
+                let mut block = right.to_vec();
+                block.resize(length, 0);
+                assert_eq!(none_left.clone().check_pin(&block), (none_left.clone(), Err(Refusal::Input)));
+            }
+            for block in [right, block_for(&record, &[1, 2, 3, 5]), [0; 8]] {
+                assert_eq!(none_left.clone().check_pin(&block), (none_left.clone(), Err(Refusal::NoTries)));
+                assert_eq!(full.clone().check_pin(&block), (full.clone(), Err(Refusal::CounterFull)));
+            }
+        }
+    }
+
+    #[test]
+    fn tries_run_down_and_are_restored() {
+        let wrong = |record: Record| {
+            let block = block_for(&record, &[4, 3, 2, 1]);
+            record.check_pin(&block)
+        };
+        let (record, first) = wrong(opened());
+        let (record, second) = wrong(record);
+        let (record, third) = wrong(record);
+        assert_eq!([first, second, third], [Err(Refusal::WrongPin), Err(Refusal::WrongPin), Err(Refusal::NoTries)]);
+        assert_eq!((record.tries, record.spoilt), (0, false));
+        assert_eq!(record.clone().withdraw().0.tries, 0);
+        assert_eq!(record.clone().close().0.tries, 0);
+        assert_eq!(accept(record.clone(), Command::Block, &[]).close().0.tries, 0);
+        let changed = accept(record.clone(), Command::ChangePin, &[1, 2, 3, 4]);
+        assert_eq!(changed.tries, 0);
+        assert_eq!(changed.clone().withdraw().0.tries, 0);
+        assert_eq!(Record { spoilt: true, ..changed.clone() }.close().0.tries, 0);
+        assert_eq!(changed.close().0.tries, 3);
     }
 }

@@ -1,16 +1,16 @@
 //! Traces made from a seed, valid and damaged: over many seeds every answer of every frame is reached. The generator answers each line
 //! itself, so that it has the keys and the cryptogram for the next one.
 
-use crate::card::{Phase, Record};
+use crate::card::{Phase, Record, ALL_TRIES};
 use crate::cipher::encipher;
 use crate::cryptogram::arpc;
 use crate::forms::Form;
 use crate::keys::{script_key, session_key};
 use crate::message::{coded, wrapped, Command, CLEAR, ENCIPHERED, LARGEST, LARGEST_SHORT};
 use crate::octets::{to_hex, Key};
-use crate::pin;
+use crate::pin::{self, Pin};
 use crate::random::Random;
-use crate::trace::{Run, LONGEST};
+use crate::trace::{Run, LAST_FRAME, LONGEST};
 
 type Line = Vec<u8>;
 
@@ -42,7 +42,8 @@ pub fn trace(seed: u64) -> Vec<u8> {
 pub fn short_lines() -> Vec<u8> {
     let mut random = Random::new(0);
     let mut lines = vec![b'\n'; 100_000];
-    (0..100_000).for_each(|_| lines.extend(random.choose(&[&b"\n"[..], b"\n", b"\n", b"0\n", b"05\n", b"06\n", b"07\n", b"zz\n", b"0401\n"])));
+    (0..100_000)
+        .for_each(|_| lines.extend(random.choose(&[&b"\n"[..], b"\n", b"\n", b"0\n", b"05\n", b"06\n", b"07\n", b"08\n", b"zz\n", b"0401\n"])));
     lines
 }
 
@@ -69,6 +70,8 @@ struct Clerk {
     lines: Vec<Line>,
     /// Once in so many times a line is damaged.
     damage: usize,
+    /// How often a PIN is checked in an open transaction, beside some 80 other lines.
+    checks: usize,
     /// A script of an earlier transaction.
     old_script: Option<Line>,
 }
@@ -85,7 +88,8 @@ impl Clerk {
     fn new(seed: u64) -> Clerk {
         let mut random = Random::new(seed);
         let damage = random.choose(&[1000, 40, 20, 10, 5]);
-        Clerk { random, run: Run::default(), lines: vec![], damage, old_script: None }
+        let checks = random.choose(&[4, 15, 40]);
+        Clerk { random, run: Run::default(), lines: vec![], damage, checks, old_script: None }
     }
 
     fn say(&mut self, line: Line) {
@@ -156,7 +160,7 @@ impl Clerk {
             40 => 6,
             _ => 22,
         };
-        match self.random.weighted(&[34, bad, 8, 5, 6, 13, 7, 3, 4, 1, 2, 1]) {
+        match self.random.weighted(&[34, bad, 8, 5, 6, 13, 7, 3, 4, 1, 2, self.checks, 1]) {
             0 => self.good_script(),
             1 => self.bad_script(),
             2 => self.issuer_answer(),
@@ -169,24 +173,26 @@ impl Clerk {
             8 => self.with_bytes_after(),
             9 => self.personalise(),
             10 => self.spoilt_personalise(),
+            11 => self.pin_check(),
             _ => self.any_frame(0),
         }
     }
 
     /// Any frame from a first one on, of any length that can be read.
     fn any_frame(&mut self, from: u8) -> Line {
-        let first = self.random.within(from.into(), 6) as u8;
+        let first = self.random.within(from.into(), LAST_FRAME.into()) as u8;
         let any = self.random.below(MOST + 1);
-        let length = self.random.choose(&[0, 0, 1, 3, 4, 12, 65, 115, any]);
+        let length = self.random.choose(&[0, 0, 1, 3, 4, 8, 12, 65, 115, 116, any]);
         frame(first, &self.random.bytes(length))
     }
 
     /// Frames that need an open transaction, of the right length.
     fn stray(&mut self) -> Line {
-        match self.random.below(4) {
+        match self.random.below(5) {
             0 => frame(2, &self.random.bytes(12)),
             1 => self.old_script.clone().unwrap_or_else(|| script(&Command::Block.header(), &[])),
             2 => frame(4, &[]),
+            3 => self.pin_check(),
             _ => frame(6, &[]),
         }
     }
@@ -238,10 +244,24 @@ impl Clerk {
         pin::written(count as u8, &self.random.digits(count))
     }
 
+    /// With the byte for the tries or without. Often few are left, and then the PIN decipherment counter is often full or nearly so.
     fn personalise_with(&mut self, mark: u8, block: [u8; 8]) -> Vec<u8> {
+        let tries = self.random.choose(&[&[][..], &[], &[], &[3], &[2], &[1], &[1], &[0]]);
         let keys = [self.key(), self.key(), self.key()].concat();
-        let counters: Vec<u8> = (0..5).flat_map(|_| self.counter().to_be_bytes()).collect();
-        [&keys[..], &counters, &[mark], &block].concat()
+        let mut counters = [0; 5].map(|_| self.counter());
+        if self.random.once_in(3) && (tries == [0] || tries == [1]) {
+            counters[3] = self.random.choose(&[65533, 65534, 65535, 65535]);
+        }
+        let counters: Vec<u8> = counters.iter().flat_map(|counter| counter.to_be_bytes()).collect();
+        [&keys[..], &counters, &[mark], &block, tries].concat()
+    }
+
+    /// The same with tries that no card has.
+    fn personalise_with_tries_above(&mut self, mark: u8, block: [u8; 8]) -> Line {
+        let mut rest = self.personalise_with(mark, block);
+        rest.truncate(115);
+        rest.push(self.random.choose(&[ALL_TRIES + 1, ALL_TRIES + 1, 5, 0x80, 0x83, 0xff]));
+        frame(0, &rest)
     }
 
     fn personalise(&mut self) -> Line {
@@ -252,7 +272,7 @@ impl Clerk {
 
     fn spoilt_personalise(&mut self) -> Line {
         let (good, bad) = (self.good_pin_block(), self.bad_pin_block());
-        match self.random.below(6) {
+        match self.random.below(9) {
             0 => {
                 let mark = self.random.choose(&[2, 0x80, 0xff]);
                 frame(0, &self.personalise_with(mark, good))
@@ -264,10 +284,14 @@ impl Clerk {
                 frame(0, &rest)
             }
             3 => {
-                let any = self.random.within(1, MOST - 115);
-                let extra = self.random.choose(&[1, 24, 25, any]);
-                frame(0, &[self.personalise_with(0, good), self.random.bytes(extra)].concat())
+                let rest = self.personalise_with(0, good);
+                let least = 117 - rest.len();
+                let any = self.random.within(least, MOST - rest.len());
+                let extra = self.random.choose(&[least, least, 24, 25, any]);
+                frame(0, &[rest, self.random.bytes(extra)].concat())
             }
+            4 | 5 => self.personalise_with_tries_above(0, good),
+            6 => self.personalise_with_tries_above(0, bad),
             _ => frame(0, &self.personalise_with(0, bad)),
         }
     }
@@ -313,8 +337,66 @@ impl Clerk {
         encipher(&script_key(&self.record().smc, &self.record().cryptogram), block).to_vec()
     }
 
+    /// The block of a kept or pending PIN.
+    fn block_of(pin: &Pin) -> [u8; 8] {
+        pin::written(pin.count, &pin.places[..pin.count.into()])
+    }
+
+    /// A PIN check: the right PIN, a wrong one, the pending one, a badly formed block, one that is not enciphered for this transaction, or one of
+    /// another length. Wrong ones are the most, for each of the others may restore the tries or take none.
+    fn pin_check(&mut self) -> Line {
+        let (kept, pending) = (self.record().pin, self.record().pending_pin);
+        let right = self.enciphered(&Self::block_of(&kept));
+        let block = match self.random.weighted(&[14, 24, 9, 9, 2, 5]) {
+            0 => right,
+            2 if pending != Pin::NONE => self.enciphered(&Self::block_of(&pending)),
+            1 | 2 => {
+                let block = self.wrong_pin_block(&kept);
+                self.enciphered(&block)
+            }
+            3 => {
+                let block = self.bad_pin_block();
+                self.enciphered(&block)
+            }
+            4 => {
+                let (smi, clear) = (self.smi(), Self::block_of(&kept));
+                let any = self.random.array();
+                self.random.choose(&[clear, encipher(&smi, &clear), encipher(&self.record().smc, &clear), any]).to_vec()
+            }
+            _ => {
+                let any = self.random.below(MOST + 1);
+                let length = self.random.choose(&[0, 7, 9, 16, 8 + 256, 8 + 256, MOST, any]);
+                let after = self.random.bytes(length);
+                right.into_iter().chain(after.into_iter().skip(8)).take(length).collect()
+            }
+        };
+        frame(7, &block)
+    }
+
+    /// Another PIN than the kept one, often one like it: a digit changed, a digit less, or zeros after it, which leave its twelve places as they are.
+    fn wrong_pin_block(&mut self, kept: &Pin) -> [u8; 8] {
+        let count = usize::from(kept.count);
+        let mut digits = kept.places[..count].to_vec();
+        match self.random.below(5) {
+            0 | 1 => {
+                let place = self.random.below(count);
+                digits[place] = (digits[place] + self.random.within(1, 9) as u8) % 10;
+            }
+            2 if count < 12 => digits.resize(self.random.within(count + 1, 12), 0),
+            3 if count > 4 => digits.truncate(count - 1),
+            _ => loop {
+                let block = self.good_pin_block();
+                if block != Self::block_of(kept) {
+                    return block;
+                }
+            },
+        }
+        pin::write(&digits).expect("digits")
+    }
+
+    /// Of a PIN change mostly a new PIN, at times the kept one.
     fn good_data(&mut self, command: Command) -> Vec<u8> {
-        let block = self.good_pin_block();
+        let block = if self.random.once_in(5) { Self::block_of(&self.record().pin) } else { self.good_pin_block() };
         if command == Command::ChangePin {
             self.enciphered(&block)
         } else {
@@ -456,11 +538,12 @@ impl Clerk {
     /// A line that could stand here.
     fn plain(&mut self) -> Line {
         let open = self.run.record.as_ref().map_or(false, Record::is_open);
-        match self.random.below(5) {
+        match self.random.below(6) {
             0 => self.open(),
             1 if open => self.good_script(),
             2 if open => self.issuer_answer(),
             3 => self.personalise(),
+            4 if open => self.pin_check(),
             _ => frame(self.random.within(4, 6) as u8, &[]),
         }
     }
@@ -489,7 +572,7 @@ impl Clerk {
             8 => self.put(&mut line, b" \t"),
             9 => self.put(&mut line, b"\r"),
             10 => {
-                let first = format!("{:02x}", self.random.choose(&[7, 8, 0x10, 0x60, 0xff]));
+                let first = format!("{:02x}", self.random.choose(&[8, 8, 0x0f, 0x10, 0x70, 0xff]));
                 line[..2].copy_from_slice(first.as_bytes());
             }
             11 | 12 => line = self.line_at_the_edge(),
@@ -531,7 +614,7 @@ impl Clerk {
         let message = wrapped(&key, &header, ENCIPHERED, &self.random.bytes(length)).expect("up to 255 bytes");
         let mut line = script(&header, &message);
         line.resize(self.random.within(edge - 1, edge + 3), b'0');
-        line[1] = self.random.choose(b"33333012456");
+        line[1] = self.random.choose(b"333330124567");
         line
     }
 }

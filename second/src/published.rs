@@ -314,7 +314,7 @@ fn p11_kinds() {
 
 fn card(transaction_counter: u16) -> Record {
     let pin = pin::Pin::of_digits(&[1, 2, 3, 4]).unwrap();
-    Record::new([[0; 32]; 3], transaction_counter, pin::Counters::default(), false, pin)
+    Record::new([[0; 32]; 3], transaction_counter, pin::Counters::default(), false, pin, 3)
 }
 
 #[test]

@@ -29,6 +29,10 @@ pub enum Refusal {
     PinDigits = 12,
     /// The line cannot be read.
     Unreadable = 13,
+    /// The PIN is not the kept one.
+    WrongPin = 14,
+    /// No tries are left for a PIN.
+    NoTries = 15,
 }
 
 impl Refusal {

@@ -3,18 +3,19 @@
 use std::collections::{BTreeMap, BTreeSet};
 use std::fmt::Write;
 
-use crate::card::{PendingMark, Phase, Record};
+use crate::card::{PendingMark, Phase, Record, ALL_TRIES};
+use crate::cipher::decipher;
 use crate::cryptogram::arpc;
 use crate::forms::form_of;
 use crate::keys::{script_key, session_key};
 use crate::message::{code_matches, open, shape, Command, Header, Opened};
-use crate::octets::{digit, from_hex, Key};
-use crate::pin::Pin;
+use crate::octets::{digit, exact, from_hex, Key};
+use crate::pin::{self, Pin};
 use crate::refusal::{number_of, Refusal};
 use crate::trace::{Answered, Run, LAST_FRAME, LONGEST};
 
-/// Which numbers paper 01 names for a frame; 13 for a line that starts like it.
-const NAMED: [(u8, &[u8]); 7] = [
+/// Which numbers paper 01 and Wish 4 name for a frame; 13 for a line that starts like it.
+const NAMED: [(u8, &[u8]); 8] = [
     (0, &[0, 1, 9, 13]),
     (1, &[0, 1, 6, 7, 13]),
     (2, &[0, 1, 6, 11, 13]),
@@ -22,18 +23,34 @@ const NAMED: [(u8, &[u8]); 7] = [
     (4, &[0, 1, 6, 10, 13]),
     (5, &[0, 1, 6, 13]),
     (6, &[0, 1, 6, 13]),
+    (7, &[0, 1, 6, 7, 9, 13, 14, 15]),
 ];
+
+/// The greatest number of a refusal.
+const LAST_NUMBER: u8 = Refusal::NoTries as u8;
 
 /// Causes that must be reached too.
 const CAUSES: &[&str] = &[
     "00 0 again, none open",
     "00 0 again, open",
     "00 0 first",
+    "00 0 no byte for the tries",
+    "00 0 tries 0",
+    "00 0 tries 1",
+    "00 0 tries 2",
+    "00 0 tries 3",
     "00 1 length",
     "00 1 mark",
     "00 1 mark, and PIN block wrong",
+    "00 1 mark, with tries",
+    "00 1 one byte more than the tries",
+    "00 1 tries 4",
+    "00 1 tries above 3",
+    "00 1 tries above 3, and PIN block wrong",
+    "00 9 no byte for the tries",
     "00 9 with a record",
     "00 9 with none",
+    "00 9 with tries",
     "01 0 AAC",
     "01 0 ARQC",
     "01 0 session counter reaches 65535",
@@ -101,12 +118,17 @@ const CAUSES: &[&str] = &[
     "03 9 PIN block",
     "04 0 clears the mark",
     "04 0 new PIN",
+    "04 0 mark alone, tries below three",
     "04 0 new PIN and mark",
+    "04 0 new PIN restores the tries",
+    "04 0 no tries left, new PIN restores them",
     "04 0 nothing pending",
+    "04 0 same PIN restores the tries",
     "04 0 sets the mark",
     "04 1 256 bytes after",
     "04 1 bytes after, open",
     "04 10 nothing pending",
+    "04 10 pending PIN dropped, tries below three",
     "04 10 pending dropped",
     "04 6 before a record",
     "04 6 none open",
@@ -115,7 +137,10 @@ const CAUSES: &[&str] = &[
     "05 0 after 03 accepted",
     "05 0 after 03 refused",
     "05 0 after 06",
+    "05 0 after 07 accepted",
+    "05 0 after 07 refused",
     "05 0 none open",
+    "05 0 pending PIN dropped, tries below three",
     "05 0 pending dropped",
     "05 0 spoilt",
     "05 1 256 bytes after",
@@ -129,10 +154,44 @@ const CAUSES: &[&str] = &[
     "06 1 bytes after, open",
     "06 6 before a record",
     "06 6 none open",
+    "07 0 AAC",
+    "07 0 ARQC",
+    "07 0 another PIN pending",
+    "07 0 restores the tries",
+    "07 0 same PIN pending",
+    "07 0 spoilt",
+    "07 0 tries at three",
+    "07 1 PIN decipherment counter at 65535",
+    "07 1 length",
+    "07 1 no tries left",
+    "07 1 right PIN and 256 bytes",
+    "07 6 before a record",
+    "07 6 none open",
+    "07 6 none open, wrong length",
+    "07 7 PIN block",
+    "07 7 right PIN",
+    "07 7 wrong PIN",
+    "07 9 AAC",
+    "07 9 ARQC",
+    "07 9 PIN decipherment counter reaches 65535",
+    "07 9 last try left",
+    "07 9 spoilt",
+    "07 14 AAC",
+    "07 14 ARQC",
+    "07 14 another count, the same places",
+    "07 14 spoilt",
+    "07 14 takes the last try",
+    "07 14 the pending PIN",
+    "07 14 three tries",
+    "07 15 PIN block",
+    "07 15 PIN decipherment counter at 65535",
+    "07 15 right PIN",
+    "07 15 the pending PIN",
+    "07 15 wrong PIN",
     "13 alone: capital",
     "13 alone: carriage return",
     "13 alone: empty",
-    "13 alone: first byte above 06",
+    "13 alone: first byte above 07",
     "13 alone: high byte",
     "13 alone: more than 538 digits",
     "13 alone: odd count",
@@ -237,9 +296,9 @@ impl Tally {
         let phase = if record.phase == Phase::Aac { "AAC" } else { "ARQC" };
         let text = |cause: &str| vec![cause.to_string()];
         match (frame[0], number) {
-            (0, 0) => text(if open { "again, open" } else { "again, none open" }),
-            (0, 1) => text(personalise_fault(frame)),
-            (0, _) => text("with a record"),
+            (0, 0) => causes_of_personalise(if open { "again, open" } else { "again, none open" }, frame),
+            (0, 1) => causes_of_personalise_fault(frame),
+            (0, _) => causes_of_personalise("with a record", frame),
             (1, 0) => self.causes_of_open(),
             (1, 6) if frame.len() != 66 => text("open already, wrong length"),
             (1, 6) => text("open already"),
@@ -254,12 +313,16 @@ impl Tally {
             (3, 6) => text("none open"),
             (3, _) => self.causes_of_bad_script(record, frame, number),
             (4, 0) => causes_of_close(record),
-            (4, 10) => text(if pending(record) { "pending dropped" } else { "nothing pending" }),
+            (4, 10) if pending(record) => causes_of_dropping(record),
+            (4, 10) => text("nothing pending"),
             (4..=6, 1) if frame.len() == 257 => text("256 bytes after"),
             (4..=6, 1) => text(if open { "bytes after, open" } else { "bytes after, none open" }),
             (5, 0) => self.causes_of_withdraw(record),
             (6, 0) if record.spoilt => vec![phase.to_string(), "spoilt".to_string()],
             (6, 0) => text(phase),
+            (7, 6) if frame.len() != 9 => vec!["none open".to_string(), "none open, wrong length".to_string()],
+            (7, 1) => causes_of_block_length(record, frame),
+            (7, 0 | 7 | 9 | 14 | 15) => self.causes_of_check(record, frame, number, phase),
             _ => text("none open"),
         }
     }
@@ -308,19 +371,64 @@ impl Tally {
         causes
     }
 
+    /// What a check of the right length shows: the block against kept and pending PIN, the tries and the counter before it, and the counter after it.
+    fn causes_of_check(&self, record: &Record, frame: &[u8], number: u8, phase: &str) -> Vec<String> {
+        let block = exact::<8>(&frame[1..]).expect("a block");
+        let given = pin::read(&decipher(&script_key(&record.smc, &record.cryptogram), &block)).ok();
+        let full = |record: &Record| record.counters.pin == u16::MAX;
+        let mut causes = vec![];
+        let mut add = |holds: bool, cause: &str| causes.extend(holds.then(|| cause.to_string()));
+        match given {
+            _ if [0, 9, 14].contains(&number) => {}
+            None => add(true, "PIN block"),
+            Some(given) => add(true, if given == record.pin { "right PIN" } else { "wrong PIN" }),
+        }
+        let same_places = given.map_or(false, |given| given.places == record.pin.places && given.count != record.pin.count);
+        let same_pending = record.pending_pin == record.pin;
+        let is_pending = given == Some(record.pending_pin) && !same_pending;
+        if number != 7 && number != 15 {
+            add(true, phase);
+            add(record.spoilt, "spoilt");
+        }
+        match number {
+            0 => {
+                add(record.tries < ALL_TRIES, "restores the tries");
+                add(record.tries == ALL_TRIES, "tries at three");
+                add(same_pending, "same PIN pending");
+                add(record.pending_pin != Pin::NONE && !same_pending, "another PIN pending");
+            }
+            9 => {
+                add(record.tries == 1, "last try left");
+                add(self.run.record.as_ref().map_or(false, full), "PIN decipherment counter reaches 65535");
+            }
+            14 => {
+                add(is_pending, "the pending PIN");
+                add(same_places, "another count, the same places");
+                add(record.tries == 1, "takes the last try");
+                add(record.tries == ALL_TRIES, "three tries");
+            }
+            15 => {
+                add(is_pending, "the pending PIN");
+                add(full(record), "PIN decipherment counter at 65535");
+            }
+            _ => {}
+        }
+        causes
+    }
+
     fn causes_of_withdraw(&self, record: &Record) -> Vec<String> {
         if !record.is_open() {
             return vec!["none open".to_string()];
         }
         let mut causes = vec![];
         match self.last {
-            (3, 0) => causes.push("after 03 accepted".to_string()),
-            (3, _) => causes.push("after 03 refused".to_string()),
+            (first @ (3 | 7), 0) => causes.push(format!("after {first:02x} accepted")),
+            (first @ (3 | 7), _) => causes.push(format!("after {first:02x} refused")),
             (first, 0) => causes.push(format!("after {first:02x}")),
             _ => {}
         }
         if pending(record) {
-            causes.push("pending dropped".to_string());
+            causes.extend(causes_of_dropping(record));
         }
         if record.spoilt {
             causes.push("spoilt".to_string());
@@ -348,10 +456,10 @@ impl Tally {
     fn report(&self) -> String {
         let rows: BTreeSet<&String> = self.numbers.keys().map(|(row, _)| row).collect();
         let mut text = String::from("frame ");
-        (0..=13).for_each(|number| write!(text, "{number:>7}").expect("memory"));
+        (0..=LAST_NUMBER).for_each(|number| write!(text, "{number:>7}").expect("memory"));
         for row in rows {
             write!(text, "\n{row:<6}").expect("memory");
-            for number in 0..=13 {
+            for number in 0..=LAST_NUMBER {
                 let count = self.numbers.get(&(row.clone(), number));
                 write!(text, "{:>7}", count.map_or(String::new(), usize::to_string)).expect("memory");
             }
@@ -367,7 +475,7 @@ impl Tally {
 /// The row of a line: the frame that it starts with.
 fn row(line: &[u8]) -> String {
     match line {
-        [b'0', first @ b'0'..=b'6', ..] => format!("0{}", char::from(*first)),
+        [b'0', first @ b'0'..=b'7', ..] => format!("0{}", char::from(*first)),
         _ => "other".to_string(),
     }
 }
@@ -386,7 +494,7 @@ fn faults(line: &[u8]) -> BTreeSet<&'static str> {
     }
     let first = line.get(..2).and_then(from_hex);
     if first.map_or(false, |first| first[0] > LAST_FRAME) {
-        faults.insert("first byte above 06");
+        faults.insert("first byte above 07");
     }
     faults
 }
@@ -403,22 +511,79 @@ fn sign_name(sign: u8) -> &'static str {
 }
 
 fn causes_early(frame: &[u8], number: u8) -> Vec<String> {
-    let cause = match (frame[0], number) {
-        (0, 0) => "first",
-        (0, 1) => personalise_fault(frame),
-        (0, _) => "with none",
-        _ => "before a record",
-    };
-    vec![cause.to_string()]
+    match (frame[0], number) {
+        (0, 0) => causes_of_personalise("first", frame),
+        (0, 1) => causes_of_personalise_fault(frame),
+        (0, _) => causes_of_personalise("with none", frame),
+        _ => vec!["before a record".to_string()],
+    }
 }
 
-fn personalise_fault(frame: &[u8]) -> &'static str {
-    let block: Result<[u8; 8], _> = frame[frame.len().saturating_sub(8)..].try_into();
-    match frame.len() {
-        116 if block.map_or(false, |block| crate::pin::read(&block).is_err()) => "mark, and PIN block wrong",
-        116 => "mark",
-        _ => "length",
+/// The byte for the tries of a frame 00, in the length that has it.
+fn tries_of(frame: &[u8]) -> Option<u8> {
+    frame.get(116).copied().filter(|_| frame.len() == 117)
+}
+
+/// An accepted frame 00, or one that is 9.
+fn causes_of_personalise(cause: &str, frame: &[u8]) -> Vec<String> {
+    let mut causes = vec![cause.to_string()];
+    match tries_of(frame) {
+        Some(tries) => causes.extend(["with tries".to_string(), format!("tries {tries}")]),
+        None => causes.push("no byte for the tries".to_string()),
     }
+    causes
+}
+
+fn causes_of_personalise_fault(frame: &[u8]) -> Vec<String> {
+    if ![116, 117].contains(&frame.len()) {
+        let more = if frame.len() == 118 { vec!["one byte more than the tries".to_string()] } else { vec![] };
+        return [vec!["length".to_string()], more].concat();
+    }
+    let mut faults = vec![];
+    if frame[107] > 1 {
+        faults.push("mark");
+    }
+    let tries = tries_of(frame);
+    if tries.map_or(false, |tries| tries > ALL_TRIES) {
+        faults.push("tries above 3");
+    }
+    if pin::read(&std::array::from_fn(|i| frame[108 + i])).is_err() {
+        faults.push("and PIN block wrong");
+    }
+    let mut causes = vec![faults.join(", ")];
+    match tries {
+        Some(4) => causes.push("tries 4".to_string()),
+        Some(0..=3) => causes.push("mark, with tries".to_string()),
+        _ => {}
+    }
+    causes
+}
+
+/// A PIN check of another length than 8.
+fn causes_of_block_length(record: &Record, frame: &[u8]) -> Vec<String> {
+    let mut causes = vec!["length".to_string()];
+    if record.tries == 0 {
+        causes.push("no tries left".to_string());
+    }
+    if record.counters.pin == u16::MAX {
+        causes.push("PIN decipherment counter at 65535".to_string());
+    }
+    if frame.len() == 1 + 8 + 256 {
+        let block = std::array::from_fn(|i| frame[1 + i]);
+        if pin::read(&decipher(&script_key(&record.smc, &record.cryptogram), &block)) == Ok(record.pin) {
+            causes.push("right PIN and 256 bytes".to_string());
+        }
+    }
+    causes
+}
+
+/// Something pending, by Withdraw or by Close of a spoilt transaction.
+fn causes_of_dropping(record: &Record) -> Vec<String> {
+    let mut causes = vec!["pending dropped".to_string()];
+    if record.pending_pin != Pin::NONE && record.tries < ALL_TRIES {
+        causes.push("pending PIN dropped, tries below three".to_string());
+    }
+    causes
 }
 
 fn command_of(frame: &[u8]) -> Option<Command> {
@@ -509,6 +674,17 @@ fn causes_of_close(record: &Record) -> Vec<String> {
     }
     if new_pin {
         causes.push(if record.pending_mark == PendingMark::None { "new PIN" } else { "new PIN and mark" });
+    }
+    match record.tries {
+        ALL_TRIES => {}
+        _ if !new_pin && record.pending_mark != PendingMark::None => causes.push("mark alone, tries below three"),
+        _ if !new_pin => {}
+        tries => {
+            causes.push(if record.pending_pin == record.pin { "same PIN restores the tries" } else { "new PIN restores the tries" });
+            if tries == 0 {
+                causes.push("no tries left, new PIN restores them");
+            }
+        }
     }
     causes.into_iter().map(str::to_string).collect()
 }

@@ -2,14 +2,14 @@
 
 use std::io::{self, Read, Write};
 
-use crate::card::{After, Phase, Record};
+use crate::card::{After, Phase, Record, ALL_TRIES};
 use crate::octets::{from_hex, to_hex};
 use crate::pin::{self, Counters};
 use crate::refusal::{number_of, Refusal};
 
 /// The longest line that is read, in digits, and the last frame.
 pub const LONGEST: usize = 538;
-pub const LAST_FRAME: u8 = 6;
+pub const LAST_FRAME: u8 = 7;
 
 /// What a line is answered: the bytes of an accepted frame, or the refusal.
 pub type Answered = Result<Vec<u8>, Refusal>;
@@ -53,21 +53,26 @@ impl Run {
     }
 }
 
-/// Frame 00: keys AC, SMI and SMC, counter, counter block, mark, clear PIN block. 1 (length, mark) goes ahead of 9.
+/// Frame 00: keys AC, SMI and SMC, counter, counter block, mark, clear PIN block, and at times the tries, three where they are left out. 1 (length, mark,
+/// tries) goes ahead of 9.
 fn personalised(rest: &[u8]) -> Result<Record, Refusal> {
-    let fields: &[u8; 115] = rest.try_into().map_err(|_| Refusal::Input)?;
+    let (fields, tries) = match rest.len() {
+        115 => (rest, ALL_TRIES),
+        116 => (&rest[..115], rest[115]),
+        _ => return Err(Refusal::Input),
+    };
     let key = |i: usize| std::array::from_fn(|j| fields[32 * i + j]);
     let block = |from: usize| std::array::from_fn(|j| fields[from + j]);
     let mark = fields[106];
-    if mark > 1 {
+    if mark > 1 || tries > ALL_TRIES {
         return Err(Refusal::Input);
     }
     let pin = pin::read(&block(107))?;
     let counter = u16::from_be_bytes([fields[96], fields[97]]);
-    Ok(Record::new([key(0), key(1), key(2)], counter, Counters::of_block(&block(98)), mark == 1, pin))
+    Ok(Record::new([key(0), key(1), key(2)], counter, Counters::of_block(&block(98)), mark == 1, pin, tries))
 }
 
-/// Frames 01 to 06 on a record.
+/// Frames 01 to 07 on a record.
 fn call(record: Record, first: u8, rest: &[u8]) -> After<Vec<u8>> {
     match first {
         1 => bytes(record.open(rest), |answer| [&[answer.kind.byte()], &answer.cryptogram[..]].concat()),
@@ -82,7 +87,8 @@ fn call(record: Record, first: u8, rest: &[u8]) -> After<Vec<u8>> {
         4 => within(record, rest, |record| bytes(record.close(), |()| vec![])),
         5 if rest.is_empty() => bytes(record.withdraw(), |()| vec![]),
         5 => (record, Err(Refusal::Input)),
-        _ => within(record, rest, |record| bytes(record.counters(), |block| block.to_vec())),
+        6 => within(record, rest, |record| bytes(record.counters(), |block| block.to_vec())),
+        _ => bytes(record.check_pin(rest), |()| vec![]),
     }
 }
 
@@ -194,7 +200,7 @@ mod tests {
 
     #[test]
     fn unreadable_lines() {
-        for line in ["", "0", "050", "0g", "0A", "05 ", " 05", "07", "ff", "0\x005"] {
+        for line in ["", "0", "050", "0g", "0A", "05 ", " 05", "08", "0f", "ff", "0\x005"] {
             assert_eq!(text(format!("{line}\n").as_bytes()), "0d\n", "{line}");
         }
         for high in 0x80..=0xff {
@@ -213,13 +219,13 @@ mod tests {
         assert_eq!((message.len(), 2 * (1 + 4 + message.len())), (264, LONGEST));
     }
 
-    /// The rule before Wish 1.
+    /// The rule before Wish 1, with the frame that Wish 4 adds.
     fn old_read_frame(line: &[u8]) -> Result<Vec<u8>, Refusal> {
         if line.is_empty() || line.len() > 280 {
             return Err(Refusal::Unreadable);
         }
         let frame = from_hex(line).ok_or(Refusal::Unreadable)?;
-        if frame[0] > 6 {
+        if frame[0] > 7 {
             return Err(Refusal::Unreadable);
         }
         Ok(frame)
@@ -231,7 +237,7 @@ mod tests {
     fn short_lines_are_read_as_before() {
         let mut random = Random::new(0);
         for length in 0..=280 {
-            for first in b'0'..=b'8' {
+            for first in b'0'..=b'9' {
                 let mut line: Vec<u8> = (0..length).map(|_| random.choose(b"0123456789abcdef")).collect();
                 [b'0', first].into_iter().zip(&mut line).for_each(|(sign, place)| *place = sign);
                 assert_eq!(read_frame(&line), old_read_frame(&line));
@@ -245,7 +251,7 @@ mod tests {
 
     #[test]
     fn before_a_record() {
-        for first in 1..=6 {
+        for first in 1..=7 {
             for rest in [0, 1, 8, 12, 65, 139, 140, 268] {
                 let line = format!("{first:02x}{}\n", "00".repeat(rest));
                 assert_eq!(text(line.as_bytes()), "06\n");
@@ -263,6 +269,44 @@ mod tests {
         assert_eq!(text(personalise("0000", "00", "2312ffffffffffff").as_bytes()), "09\n");
         assert_eq!(text(format!("00{good}").as_bytes()), "01\n");
         assert_eq!(text(b"00\n"), "01\n");
+    }
+
+    fn personalise_with_tries(counters: &str, block: &str, tries: &str) -> String {
+        format!("00{}0000{counters}00{block}{tries}\n", "0".repeat(192))
+    }
+
+    /// Above 3 they are 1, ahead of 9; left out, they are three.
+    #[test]
+    fn tries_of_personalise_frames() {
+        let zeros = "0".repeat(16);
+        for tries in 0..=255 {
+            let wanted = if tries > 3 { "01\n" } else { "00\n" };
+            assert_eq!(text(personalise_with_tries(&zeros, PIN, &format!("{tries:02x}")).as_bytes()), wanted);
+            let wanted = if tries > 3 { "01\n" } else { "09\n" };
+            assert_eq!(text(personalise_with_tries(&zeros, "2412345fffffffff", &format!("{tries:02x}")).as_bytes()), wanted);
+        }
+        assert_eq!(text(personalise_with_tries(&zeros, PIN, "0303").as_bytes()), "01\n");
+        let left = |tries: &str| {
+            let mut run = Run::default();
+            run.answer(personalise_with_tries(&zeros, PIN, tries).trim_end().as_bytes()).unwrap();
+            run.record.unwrap().tries
+        };
+        assert_eq!(["", "03", "02", "01", "00"].map(left), [3, 3, 2, 1, 0]);
+    }
+
+    /// Phase, length, tries and counter go ahead of the block, and none of them shows in the counters.
+    #[test]
+    fn frames_07() {
+        let open = format!("01{}\n", "0".repeat(130));
+        let any = format!("07{}\n", "0".repeat(16));
+        let ends = |card: String, wanted: &str| {
+            let answers = text(format!("{card}{any}{open}07\n0700\n07{}\n{any}04\n", "0".repeat(18)).as_bytes());
+            assert!(answers.starts_with("00\n06\n0080") && answers.ends_with(&format!("\n01\n01\n01\n{wanted}\n00\n")), "{answers}");
+        };
+        ends(personalise_with_tries("0000000000000000", PIN, ""), "09");
+        ends(personalise_with_tries("00000000fffe0000", PIN, "01"), "09");
+        ends(personalise_with_tries("00000000ffff0000", PIN, "03"), "07");
+        ends(personalise_with_tries("00000000ffff0000", PIN, "00"), "0f");
     }
 
     #[test]

@@ -1,7 +1,7 @@
--- Numbered refusals (01's table): why a call is refused, "given exactly when", and its number. Assumes nothing.
+-- Numbered refusals (01's table, and those of the wishes): why a call is refused, "given exactly when", and its number. Assumes nothing.
 use Prim.Native.Nat.{ℕ}
 use Rattle.answers.specs.declared.Refusal.{Refusal}
-use Rattle.answers.specs.declared.Refusal.the-variants.{Input, CardNumber, NoRoom, ShapeWrong, NotListed, PhaseWrong, CounterFull, CodeDiffers, PinFormat, SpoiltClosed, ArpcDiffers, PinDigits, Unreadable}
+use Rattle.answers.specs.declared.Refusal.the-variants.{Input, CardNumber, NoRoom, ShapeWrong, NotListed, PhaseWrong, CounterFull, CodeDiffers, PinFormat, SpoiltClosed, ArpcDiffers, PinDigits, Unreadable, WrongPin, NoTries}
 
 abbrev pub number : Refusal → ℕ
 -- "a lent input or number that no other row names has not the length or range stated"
@@ -14,9 +14,9 @@ number NoRoom = 3
 number ShapeWrong = 4
 -- "class, instruction, parameters, tag or L not one listed"
 number NotListed = 5
--- "Open while a transaction is open; other calls but Withdraw with none open; issuer answer after an AAC; trace frames 01 to 06 before a record exists"
+-- "Open while a transaction is open; other calls but Withdraw with none open; issuer answer after an AAC; trace frames 01 to 06 before a record exists"; a PIN check and frame 07 likewise (Wish 4)
 number PhaseWrong = 6
--- "Open: transaction or session counter is 65535. Script: failure counter is 65535"
+-- "Open: transaction or session counter is 65535. Script: failure counter is 65535"; a PIN check "when that counter is 65535" (Wish 4)
 number CounterFull = 7
 -- "code differs"
 number CodeDiffers = 8
@@ -30,3 +30,7 @@ number ArpcDiffers = 11
 number PinDigits = 12
 -- "trace line unreadable"
 number Unreadable = 13
+-- "14 wrong PIN" (Wish 4)
+number WrongPin = 14
+-- "15 no tries left" (Wish 4)
+number NoTries = 15

@@ -3,7 +3,7 @@ ghost use mathlib.Core.Path.{_≡_};
 ghost use Rattle.answers.specs.Refusals.{number as numberOf};
 ghost use Rattle.answers.specs.Answers.{noBlock, noKey};
 
-// Why a call is refused, in the order of 01's table.
+// Why a call is refused, in the order of the papers' numbers.
 pub enum Refusal {
     Input,
     CardNumber,
@@ -18,6 +18,8 @@ pub enum Refusal {
     ArpcDiffers,
     PinDigits,
     Unreadable,
+    WrongPin,
+    NoTries,
 }
 
 impl Refusal {
@@ -47,6 +49,10 @@ impl Refusal {
 
     pub const UNREADABLE: u8 = 13;
 
+    pub const WRONG_PIN: u8 = 14;
+
+    pub const NO_TRIES: u8 = 15;
+
     // Its number.
     pub fn number(self) -> u8
         ensures { λ r. ⌜ r ≡ numberOf self ⌝ }
@@ -65,6 +71,8 @@ impl Refusal {
             Refusal::ArpcDiffers => Refusal::ARPC_DIFFERS,
             Refusal::PinDigits => Refusal::PIN_DIGITS,
             Refusal::Unreadable => Refusal::UNREADABLE,
+            Refusal::WrongPin => Refusal::WRONG_PIN,
+            Refusal::NoTries => Refusal::NO_TRIES,
         }
     }
 }

@@ -8,7 +8,7 @@ use lib.ListN.{length, replicate}
 use Rattle.octets.specs.Same.{same}
 use Rattle.keys.specs.CardNumber.{cardFits, X, Y, packedY}
 use Rattle.keys.specs.Answers.{cardKey, cardKeyPacked}
-use Rattle.before.specs.ZerosAfter as base
+use Rattle.before.specs.ZerosAfter as old
 
 -- X of 14 or 15 digits, with some digit that is not 0: zeros may stand on either side of zeros
 unfoldable pub touched : List ℕ → Bool
@@ -17,7 +17,7 @@ touched x = leb 14 (length x) && (leb (length x) 15 && not (same x (replicate (l
 -- for every card the seed is the one before exactly when X is not touched, in both readings; and where X is not touched, or there is no such card, so is the
 -- answer for every issuer's key, refusals too
 pub record TouchesShortCards : Type 0 where
-  pub of-seed : (pan : List ℕ) (sequence : ℕ) → cardFits pan sequence ≡ true → same (Y pan sequence) (base.Y pan sequence) ≡ not (touched (X pan sequence))
-  pub of-packed-seed : (pan : List ℕ) (sequence : ℕ) → cardFits pan sequence ≡ true → same (packedY pan sequence) (base.packedY pan sequence) ≡ not (touched (X pan sequence))
-  pub of-key : (key pan : List ℕ) (sequence : ℕ) → (cardFits pan sequence && touched (X pan sequence)) ≡ false → cardKey key pan sequence ≡ base.cardKey key pan sequence
-  pub of-packed-key : (key pan : List ℕ) (sequence : ℕ) → (cardFits pan sequence && touched (X pan sequence)) ≡ false → cardKeyPacked key pan sequence ≡ base.cardKeyPacked key pan sequence
+  pub of-seed : (pan : List ℕ) (sequence : ℕ) → cardFits pan sequence ≡ true → same (Y pan sequence) (old.Y pan sequence) ≡ not (touched (X pan sequence))
+  pub of-packed-seed : (pan : List ℕ) (sequence : ℕ) → cardFits pan sequence ≡ true → same (packedY pan sequence) (old.packedY pan sequence) ≡ not (touched (X pan sequence))
+  pub of-key : (key pan : List ℕ) (sequence : ℕ) → (cardFits pan sequence && touched (X pan sequence)) ≡ false → cardKey key pan sequence ≡ old.cardKey key pan sequence
+  pub of-packed-key : (key pan : List ℕ) (sequence : ℕ) → (cardFits pan sequence && touched (X pan sequence)) ≡ false → cardKeyPacked key pan sequence ≡ old.cardKeyPacked key pan sequence

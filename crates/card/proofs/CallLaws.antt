@@ -52,21 +52,21 @@ use Rattle.transaction.specs.declared.Transaction.{Transaction}
 use Rattle.transaction.specs.Transaction.{isOpen, none, spoilt, kindFor, justOpened, isArqc, markFor, markAfter}
 use Rattle.card.specs.declared.Card.{Card}
 use Rattle.card.specs.declared.Reply.{Reply}
-use Rattle.card.specs.Record.{sound, Kept, kept, withTransaction, withKept, withCounters, withSession, oneFailed}
+use Rattle.card.specs.Record.{fullTries, sound, withTransaction, withKept, withTries, withCounters, withSession, oneFailed, oneMisread}
 use Rattle.card.specs.Keys.{sessionKeyOf, smiKey, smcKey, counterKeyOf}
-use Rattle.card.specs.Calls.{Call, Open, IssuerAnswer, Script, Close, Withdraw, Counters, Verdict, refuse, accept, firstStruck, read, judgedScript, judged, judgedUnder, grown, cryptogramFor, arpcFor, countersFor}
-use Rattle.card.specs.Calls.{scriptChecks, gives, newPin, newMark, pend, settled, accepted, dueUnder, afterUnder, reply, plain, step}
-use Rattle.card.specs.Inner.{scriptAs, takenAs, obeyedAs, judgedAs}
+use Rattle.card.specs.Calls.{Call, Open, IssuerAnswer, Script, Close, Withdraw, Counters, CheckPin, Verdict, refuse, accept, firstStruck, read, judgedScript, judged, judgedUnder, grown, cryptogramFor, arpcFor, countersFor}
+use Rattle.card.specs.Calls.{scriptChecks, gives, newPin, newMark, pend, settled, settledRecord, isKept, pinChecks, accepted, dueUnder, afterUnder, reply, plain, step}
+use Rattle.card.specs.Inner.{scriptAs, takenAs, obeyedAs, judgedAs, checkAs, comparedAs}
 use Rattle.card.specs.Words.{Fits}
 use Rattle.card.specs.Personalise.{blank, personalised}
 
 -- what is pending laid over what is kept
 module _ (r : Card) (t : Transaction) (b : Bool) (e : b ≡ markAfter (t .mark) (r .mark)) where
-  pub laid-none : t .count ≡ 0 → withKept r (record { pin = r .pin; count = r .count; mark = b }) ≡ withKept r (settled t (kept r))
+  pub laid-none : t .count ≡ 0 → withKept r (record { pin = r .pin; count = r .count; mark = b }) ≡ settledRecord r t
   unfolding settled
   laid-none h = rw (e, eq-eqb _ _ h)
 
-  pub laid-some : (t .count ≡ 0 → ⊥) → withKept r (record { pin = t .pin; count = t .count; mark = b }) ≡ withKept r (settled t (kept r))
+  pub laid-some : (t .count ≡ 0 → ⊥) → withTries (withKept r (record { pin = t .pin; count = t .count; mark = b })) fullTries ≡ settledRecord r t
   unfolding settled
   laid-some h = rw (e, ne-eqb _ _ h)
 
@@ -198,6 +198,10 @@ module _ (r : Card) (a : Reply) (s : Bool) (e : s ≡ sound r) where
         unfolding judgedUnder dueUnder afterUnder
         counters-idle = z ∙ rw (fine, shut)
 
+        pub check-idle : (d : List ℕ) → a ≡ step r (CheckPin d)
+        unfolding judgedUnder dueUnder afterUnder
+        check-idle d = z ∙ rw (fine, shut)
+
       module _ (b : not o ≡ false) where
         ajar : isOpen (r .transaction .phase) ≡ true
         ajar = sym eo ∙ not-false o b
@@ -207,15 +211,38 @@ module _ (r : Card) (a : Reply) (s : Bool) (e : s ≡ sound r) where
         by-verdict x m (refuse q) w = rw (fine, w, ajar)
         by-verdict x m accept w = rw (fine, w)
 
+        by-check : (d : List ℕ) (v : Verdict) → judged r (CheckPin d) ≡ v → checkAs r v ≡ step r (CheckPin d)
+        unfolding dueUnder afterUnder
+        by-check d (refuse q) w = rw (fine, w)
+        by-check d accept w = rw (fine, w)
+
         pub script-on : (x m : List ℕ) → a ≡ judgedAs r x (read r x m) → a ≡ step r (Script x m)
         unfolding judgedUnder judgedScript
         script-on x m z = z ∙ by-verdict x m (firstStruck (drop 1 (scriptChecks r x (read r x m)))) (rw ajar)
+
+        pub check-input : (d : List ℕ) → (length d ≡ 8 → ⊥) → a ≡ plain r 1 → a ≡ step r (CheckPin d)
+        unfolding judgedUnder dueUnder afterUnder
+        check-input d l z = z ∙ rw (fine, ajar, ne-eqb _ _ l)
+
+        module _ (d : List ℕ) (l : length d ≡ 8) where
+          pub check-none : r .tries ≡ 0 → a ≡ plain r 15 → a ≡ step r (CheckPin d)
+          unfolding judgedUnder dueUnder afterUnder
+          check-none n z = z ∙ rw (fine, ajar, eq-eqb _ _ l, eq-eqb _ _ n)
+
+          module _ (n : r .tries ≡ 0 → ⊥) where
+            pub check-full : r .counters .decipherments ≡ 65535 → a ≡ plain r 7 → a ≡ step r (CheckPin d)
+            unfolding judgedUnder dueUnder afterUnder
+            check-full f z = z ∙ rw (fine, ajar, eq-eqb _ _ l, ne-eqb _ _ n, eq-eqb _ _ f)
+
+            pub check-on : (r .counters .decipherments ≡ 65535 → ⊥) → a ≡ comparedAs r (decipherPin (smcKey r) d) → a ≡ step r (CheckPin d)
+            unfolding judgedUnder dueUnder afterUnder
+            check-on f z = z ∙ by-check d (firstStruck (drop 4 (pinChecks r [] (decipherPin (smcKey r) d)))) (rw (ajar, eq-eqb _ _ l, ne-eqb _ _ n, ne-eqb _ _ f))
 
         pub close-spoilt : (t : Transaction) → r .transaction .spoilt ≡ true → t ≡ none → a ≡ plain (withTransaction r t) 10 → a ≡ step r Close
         unfolding judgedUnder dueUnder afterUnder
         close-spoilt t p n z = z ∙ rw (fine, ajar, p, n)
 
-        pub close-done : (t : Transaction) (d : Card) → r .transaction .spoilt ≡ false → d ≡ withKept r (settled (r .transaction) (kept r)) → t ≡ none
+        pub close-done : (t : Transaction) (d : Card) → r .transaction .spoilt ≡ false → d ≡ settledRecord r (r .transaction) → t ≡ none
             → a ≡ plain (withTransaction d t) 0 → a ≡ step r Close
         unfolding judgedUnder dueUnder afterUnder
         close-done t d p l n z = z ∙ ap₂ (λ (x : Card) (y : Transaction). plain (withTransaction x y) 0) l n ∙ rw (fine, ajar, p)
@@ -251,6 +278,31 @@ pub counters-done : (r : Card) (s o : Bool) (g : List ℕ) → s ≡ sound r →
     → record { card = r; code = 0; kind = 0; bytes = g } ≡ step r Counters
 unfolding judgedUnder dueUnder afterUnder
 counters-done r s o g e h eo b z = rw (sym e ∙ not-false s h, sym eo ∙ not-false o b, z)
+
+-- a PIN check: 9, 14, or accepted
+module _ (r : Card) (d k : List ℕ) (x : PinRead) (a : Reply) (ek : k ≡ smcKey r) (ex : x ≡ decipherPin k d) where
+  abbrev Compared : PinRead → Type 0
+  Compared y = a ≡ comparedAs r y
+
+  as-read : Compared x → Compared (decipherPin (smcKey r) d)
+  as-read z = subst Compared (ex ∙ ap (λ (y : List ℕ). decipherPin y d) ek) z
+
+  pub misread : (x .code ≡ 0 → ⊥) → a ≡ plain (withCounters r (r .atc) (oneMisread (r .counters))) 9 → Compared (decipherPin (smcKey r) d)
+  misread n z = as-read (z ∙ rw (ne-eqb _ _ n))
+
+  module _ (n : x .code ≡ 0) (v : Bool) (ev : v ≡ isKept r x) where
+    pub mistaken : not v ≡ true → a ≡ plain (withTries r (r .tries - 1)) 14 → Compared (decipherPin (smcKey r) d)
+    mistaken w z = as-read (z ∙ rw (eq-eqb _ _ n, sym ev ∙ not-true v w))
+
+    pub recognised : not v ≡ false → a ≡ plain (withTries r fullTries) 0 → Compared (decipherPin (smcKey r) d)
+    recognised w z = as-read (z ∙ rw (eq-eqb _ _ n, sym ev ∙ not-false v w))
+
+-- the kept PIN by count and digits
+pub other-count : (r : Card) (x : PinRead) → (x .count ≡ r .count → ⊥) → false ≡ isKept r x
+other-count r x n = simp (ne-eqb _ _ n)
+
+pub same-count : (r : Card) (x : PinRead) (b : Bool) → x .count ≡ r .count → b ≡ same (x .pin) (r .pin) → b ≡ isKept r x
+same-count r x b e z = z ∙ rw (eq-eqb _ _ e)
 
 -- a script: what an accepted command makes pending, or 9
 pub mark-taken : (r : Card) (b : Bool) (m : PendingMark) (a : Reply) → m ≡ markFor b
@@ -352,24 +404,28 @@ judge-data m o t p n e f =
 pub blank-by : (t : Transaction) → t ≡ none → withTransaction blank t ≡ blank
 blank-by t e = ap (withTransaction blank) e
 
-module _ (ac smi smc : List ℕ) (atc : ℕ) (counters : List ℕ) (mark : ℕ) (block : List ℕ) (a : Reply) where
+module _ (ac smi smc : List ℕ) (atc : ℕ) (counters : List ℕ) (mark : ℕ) (block : List ℕ) (tries : ℕ) (a : Reply) where
   abbrev with : PinRead → CounterStruct → Transaction → Card
-  with y n t = record { ac = ac; smi = smi; smc = smc; pin = y .pin; count = y .count; mark = eqb mark 1; atc = atc; counters = n; transaction = t }
+  with y n t = record { ac = ac; smi = smi; smc = smc; pin = y .pin; count = y .count; mark = eqb mark 1; tries = tries; atc = atc; counters = n; transaction = t }
 
-  pub fresh-mark : (b : Card) → 1 < mark → b ≡ blank → a ≡ plain b 1 → a ≡ personalised ac smi smc atc counters mark block
+  pub fresh-mark : (b : Card) → 1 < mark → b ≡ blank → a ≡ plain b 1 → a ≡ personalised ac smi smc atc counters mark block tries
   unfolding personalised
   fresh-mark b h e z = z ∙ ap (λ (x : Card). plain x 1) e ∙ rw (lt-leb mark 1 h)
 
-  module _ (h : mark ≤ 1) (x : PinRead) (ex : x ≡ readBlock block) where
-    pub fresh-format : (b : Card) → (x .code ≡ 0 → ⊥) → b ≡ blank → a ≡ plain b 9 → a ≡ personalised ac smi smc atc counters mark block
+  pub fresh-tries : (b : Card) → mark ≤ 1 → fullTries < tries → b ≡ blank → a ≡ plain b 1 → a ≡ personalised ac smi smc atc counters mark block tries
+  unfolding personalised
+  fresh-tries b h n e z = z ∙ ap (λ (x : Card). plain x 1) e ∙ rw (le-leb mark 1 h, lt-leb tries fullTries n)
+
+  module _ (h : mark ≤ 1) (k : tries ≤ fullTries) (x : PinRead) (ex : x ≡ readBlock block) where
+    pub fresh-format : (b : Card) → (x .code ≡ 0 → ⊥) → b ≡ blank → a ≡ plain b 9 → a ≡ personalised ac smi smc atc counters mark block tries
     unfolding personalised
-    fresh-format b n e z = z ∙ ap (λ (y : Card). plain y 9) e ∙ rw (le-leb mark 1 h, ap (λ (y : PinRead). eqb (y .code) 0) (sym ex) ∙ ne-eqb _ _ n)
+    fresh-format b n e z = z ∙ ap (λ (y : Card). plain y 9) e ∙ rw (le-leb mark 1 h, le-leb tries fullTries k, ap (λ (y : PinRead). eqb (y .code) 0) (sym ex) ∙ ne-eqb _ _ n)
 
     pub fresh-done : (n : CounterStruct) (t : Transaction) → x .code ≡ 0 → n ≡ countersOf counters → t ≡ none
-        → a ≡ plain (with x n t) 0 → a ≡ personalised ac smi smc atc counters mark block
+        → a ≡ plain (with x n t) 0 → a ≡ personalised ac smi smc atc counters mark block tries
     unfolding personalised
     fresh-done n t c en et z =
         z
         ∙ ap₂ (λ (u : CounterStruct) (v : Transaction). plain (with x u v) 0) en et
         ∙ ap (λ (y : PinRead). plain (with y (countersOf counters) none) 0) ex
-        ∙ rw (le-leb mark 1 h, ap (λ (y : PinRead). eqb (y .code) 0) (sym ex) ∙ eq-eqb _ _ c)
+        ∙ rw (le-leb mark 1 h, le-leb tries fullTries k, ap (λ (y : PinRead). eqb (y .code) 0) (sym ex) ∙ eq-eqb _ _ c)

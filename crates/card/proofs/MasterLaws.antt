@@ -1,5 +1,5 @@
 -- No call changes the master keys; and no words fit every key. Assumes nothing.
-use Prim.Native.Nat.{ℕ}
+use Prim.Native.Nat.{ℕ, _-_}
 use mathlib.Core.Path.{_≡_, refl}
 use mathlib.Core.Bool.{Bool, true, false, cond}
 use mathlib.Core.List.{List, []}
@@ -8,8 +8,8 @@ use Rattle.answers.specs.declared.Refusal.{Refusal}
 use Rattle.answers.specs.Refusals.{number}
 use Rattle.transaction.specs.Transaction.{isOpen, none}
 use Rattle.card.specs.declared.Card.{Card}
-use Rattle.card.specs.Record.{sound, Masters, masters, withTransaction}
-use Rattle.card.specs.Calls.{Call, Open, IssuerAnswer, Script, Close, Withdraw, Counters, Verdict, refuse, accept, judged, accepted, spoiledBy, refused, afterBy, after, afterUnder}
+use Rattle.card.specs.Record.{sound, Masters, masters, withTransaction, withTries, withCounters, oneMisread}
+use Rattle.card.specs.Calls.{Call, Open, IssuerAnswer, Script, Close, Withdraw, Counters, CheckPin, Verdict, refuse, accept, judged, accepted, spoiledBy, refused, afterBy, after, afterUnder}
 use Rattle.card.specs.Words.{FitAll}
 use Rattle.card.proofs.CallLaws.{none-fits}
 
@@ -23,6 +23,7 @@ by-accepted r (Script h m) = refl
 by-accepted r Close = refl
 by-accepted r Withdraw = refl
 by-accepted r Counters = refl
+by-accepted r (CheckPin b) = refl
 
 either : (r s : Card) (b : Bool) → masters s ≡ masters r → masters (cond b s r) ≡ masters r
 either r s true e = e
@@ -35,6 +36,12 @@ by-refused r (Script h m) q = either r (spoiledBy r q) (isOpen (r .transaction .
 by-refused r Close q = either r (withTransaction r none) (eqb (number q) 10) refl
 by-refused r Withdraw q = refl
 by-refused r Counters q = refl
+by-refused r (CheckPin b) q = go (eqb (number q) 9) (eqb (number q) 14)
+  where
+    go : (x y : Bool) → masters (cond x (withCounters r (r .atc) (oneMisread (r .counters))) (cond y (withTries r (r .tries - 1)) r)) ≡ masters r
+    go true y = refl
+    go false true = refl
+    go false false = refl
 
 by-verdict : (r : Card) (c : Call) (v : Verdict) → masters (afterBy r c v) ≡ masters r
 by-verdict r c (refuse q) = by-refused r c q

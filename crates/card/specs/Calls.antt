@@ -1,12 +1,12 @@
 -- The calls (01, The soft card and Numbered refusals): with which number a call is refused, what it gives, and the record after it.
 -- Assumes nothing.
-use Prim.Native.Nat.{ℕ, _+_}
+use Prim.Native.Nat.{ℕ, _+_, _-_}
 use mathlib.Core.Bool.{Bool, true, false, not, _&&_, _||_, cond}
 use mathlib.Core.List.{List, [], _∷_}
 use lib.Dec.{eqb}
 use lib.ListN.{length, replicate}
 use Rattle.answers.specs.declared.Refusal.{Refusal}
-use Rattle.answers.specs.declared.Refusal.the-variants.{Input, ShapeWrong, NotListed, PhaseWrong, CounterFull, CodeDiffers, PinFormat, SpoiltClosed, ArpcDiffers}
+use Rattle.answers.specs.declared.Refusal.the-variants.{Input, ShapeWrong, NotListed, PhaseWrong, CounterFull, CodeDiffers, PinFormat, SpoiltClosed, ArpcDiffers, WrongPin, NoTries}
 use Rattle.answers.specs.Refusals.{number}
 use Rattle.octets.specs.Same.{same}
 use Rattle.gost.specs.Gost.{subkeys, encipher}
@@ -26,7 +26,7 @@ use Rattle.transaction.specs.declared.Transaction.{Transaction}
 use Rattle.transaction.specs.Transaction.{isOpen, none, spoilt, withPending, kindFor, justOpened, isArqc, markFor, markAfter}
 use Rattle.card.specs.declared.Card.{Card}
 use Rattle.card.specs.declared.Reply.{Reply}
-use Rattle.card.specs.Record.{sound, Kept, kept, withPin, withMark, withTransaction, withKept, withCounters, withSession, oneFailed}
+use Rattle.card.specs.Record.{fullTries, sound, Kept, kept, withPin, withMark, withTransaction, withKept, withTries, withCounters, withSession, oneFailed, oneMisread}
 use Rattle.card.specs.Keys.{sessionKeyOf, smiKey, smcKey, counterKeyOf}
 
 pub data Call : Type 0 where
@@ -34,6 +34,7 @@ pub data Call : Type 0 where
   IssuerAnswer : List ℕ → List ℕ → Call
   Script : List ℕ → List ℕ → Call
   Close Withdraw Counters : Call
+  CheckPin : List ℕ → Call
 
 -- a call is refused by the first check that strikes, and accepted where none does
 pub data Verdict : Type 0 where
@@ -97,6 +98,21 @@ scriptChecks r h x =
 unfoldable pub judgedScript : Card → List ℕ → Message → Verdict
 judgedScript r h x = firstStruck (scriptChecks r h x)
 
+-- "compared with the kept PIN": its count and its digits
+abbrev pub isKept : Card → PinRead → Bool
+isKept r x = eqb (x .count) (r .count) && same (x .pin) (r .pin)
+
+-- "order 6, 1, 15, 7 when that counter is 65535, 9, 14" (Wish 4): of a block, and of what it reads as
+abbrev pub pinChecks : Card → List ℕ → PinRead → List Check
+pinChecks r b x =
+    strikes (not (isOpen (r .transaction .phase))) PhaseWrong
+    ∷ strikes (not (eqb (length b) 8)) Input
+    ∷ strikes (eqb (r .tries) 0) NoTries
+    ∷ strikes (eqb (r .counters .decipherments) 65535) CounterFull
+    ∷ strikes (not (eqb (x .code) 0)) PinFormat
+    ∷ strikes (not (isKept r x)) WrongPin
+    ∷ []
+
 -- the ARPC that the card expects
 unfoldable pub arpcFor : Card → List ℕ → List ℕ
 arpcFor r csu = arpcOf (subkeys 8 (sessionKeyOf r)) (r .transaction .cryptogram) csu
@@ -120,6 +136,7 @@ judgedUnder k r (Script h m) = judgedScript r h (readUnder k r h m)
 judgedUnder k r Close = firstStruck (strikes (not (isOpen (r .transaction .phase))) PhaseWrong ∷ strikes (r .transaction .spoilt) SpoiltClosed ∷ [])
 judgedUnder k r Withdraw = accept
 judgedUnder k r Counters = firstStruck (strikes (not (isOpen (r .transaction .phase))) PhaseWrong ∷ [])
+judgedUnder k r (CheckPin b) = firstStruck (pinChecks r b (decipherPin (smcKey r) b))
 
 abbrev pub judged : Card → Call → Verdict
 judged = judgedUnder present
@@ -153,6 +170,7 @@ gives r (Script h m) = only 0
 gives r Close = only 0
 gives r Withdraw = only 0
 gives r Counters = record { number = 0; kind = 0; bytes = countersFor r }
+gives r (CheckPin b) = only 0
 
 -- "24 .. sets the pending PIN; 1e and 18 .. set and clear the pending mark": what a command orders, and orders become pending
 pub data Order : Type 0 where
@@ -178,8 +196,16 @@ unfoldable pub settled : Transaction → Kept → Kept
 settled t k =
     withMark (withPin k (cond (eqb (t .count) 0) (k .pin) (t .pin)) (cond (eqb (t .count) 0) (k .count) (t .count))) (markAfter (t .mark) (k .mark))
 
+-- "A PIN change kept at Close restores three." (Wish 4)
+abbrev pub triesAfter : Transaction → ℕ → ℕ
+triesAfter t n = cond (eqb (t .count) 0) n fullTries
+
+-- the record with what is pending laid over what is kept
+abbrev pub settledRecord : Card → Transaction → Card
+settledRecord r t = withTries (withKept r (settled t (kept r))) (triesAfter t (r .tries))
+
 -- the record after an accepted call. Issuer answer: "on a match the session counter becomes 0". Withdraw: "drops what is pending and ends the
--- transaction". Counters: "Changes nothing."
+-- transaction". Counters: "Changes nothing." A PIN check: "the right one .. restores three".
 abbrev pub acceptedScript : Card → Message → Card
 acceptedScript r x = withTransaction r (pendAll (orders (x .command) (x .block)) (r .transaction))
 
@@ -187,9 +213,10 @@ abbrev pub acceptedUnder : Rules → Card → Call → Card
 acceptedUnder k r (Open d) = withTransaction (grown r) (justOpened (r .mark) (cryptogramFor (grown r) d))
 acceptedUnder k r (IssuerAnswer arpc csu) = withCounters r (r .atc) (withSession (r .counters) 0)
 acceptedUnder k r (Script h m) = acceptedScript r (readUnder k r h m)
-acceptedUnder k r Close = withTransaction (withKept r (settled (r .transaction) (kept r))) none
+acceptedUnder k r Close = withTransaction (settledRecord r (r .transaction)) none
 acceptedUnder k r Withdraw = withTransaction r none
 acceptedUnder k r Counters = r
+acceptedUnder k r (CheckPin b) = withTries r fullTries
 
 abbrev pub accepted : Card → Call → Card
 accepted = acceptedUnder present
@@ -203,6 +230,13 @@ spoiledBy r q =
 abbrev pub refusedScript : Card → Refusal → Card
 refusedScript r q = cond (isOpen (r .transaction .phase)) (spoiledBy r q) r
 
+-- a PIN check: "A badly formed block adds 1 to the PIN decipherment counter. A well-formed wrong PIN takes one try away"; "the others leave the record as it
+-- was" (Wish 4)
+abbrev pub refusedCheck : Card → Refusal → Card
+refusedCheck r q =
+    cond (eqb (number q) (number PinFormat)) (withCounters r (r .atc) (oneMisread (r .counters)))
+    (cond (eqb (number q) (number WrongPin)) (withTries r (r .tries - 1)) r)
+
 abbrev pub refused : Card → Call → Refusal → Card
 refused r (Open d) q = r
 refused r (IssuerAnswer arpc csu) q = r
@@ -210,6 +244,7 @@ refused r (Script h m) q = refusedScript r q
 refused r Close q = cond (eqb (number q) (number SpoiltClosed)) (withTransaction r none) r
 refused r Withdraw q = r
 refused r Counters q = r
+refused r (CheckPin b) q = refusedCheck r q
 
 -- what is due, and the record after, by the verdict; "Any unsound record gets 1 ahead of all other checks and comes back unchanged, Script included."
 abbrev pub dueBy : Card → Call → Verdict → Answer

@@ -2,6 +2,7 @@
 use Prim.Native.Nat.{ℕ, _+_}
 use mathlib.Core.Bool.{Bool, _&&_}
 use mathlib.Core.List.{List}
+use lib.Dec.{leb}
 use Rattle.pin.specs.declared.Counters.{Counters}
 use Rattle.pin.specs.PinBlock.{pinFits}
 use Rattle.transaction.specs.declared.Transaction.{Transaction}
@@ -9,9 +10,14 @@ use Rattle.transaction.specs.Transaction.{pendingFits, restFits}
 use Rattle.card.specs.declared.Card.{Card}
 
 -- "A record is sound when its PIN has 4 to 12 digits from 0 to 9 with zeros in the unused places, a pending PIN likewise (count and places all zero
--- where none is pending), and with none open all transaction fields are zero."
+-- where none is pending), and with none open all transaction fields are zero." "The record gains the tries left, 0 to 3 (more is unsound)" (Wish 4)
+abbrev pub fullTries : ℕ
+fullTries = 3
+
 unfoldable pub sound : Card → Bool
-sound r = pinFits 0 (r .count) (r .pin) && (pendingFits (r .transaction .count) (r .transaction .pin) && restFits (r .transaction))
+sound r =
+    pinFits 0 (r .count) (r .pin)
+    && (leb (r .tries) fullTries && (pendingFits (r .transaction .count) (r .transaction .pin) && restFits (r .transaction)))
 
 -- the master keys, and what is kept from one transaction to the next
 pub record Masters : Type 0 where
@@ -38,8 +44,8 @@ abbrev pub withMark : Kept → Bool → Kept
 withMark k b = record { pin = k .pin; count = k .count; mark = b }
 
 -- the record of its parts, and a record with a part set anew
-abbrev pub cardOf : Masters → Kept → ℕ → Counters → Transaction → Card
-cardOf m k atc c t =
+abbrev pub cardOf : Masters → Kept → ℕ → ℕ → Counters → Transaction → Card
+cardOf m k tries atc c t =
     record {
       ac = m .ac;
       smi = m .smi;
@@ -47,21 +53,25 @@ cardOf m k atc c t =
       pin = k .pin;
       count = k .count;
       mark = k .mark;
+      tries = tries;
       atc = atc;
       counters = c;
       transaction = t;
     }
 
 abbrev pub withTransaction : Card → Transaction → Card
-withTransaction r t = cardOf (masters r) (kept r) (r .atc) (r .counters) t
+withTransaction r t = cardOf (masters r) (kept r) (r .tries) (r .atc) (r .counters) t
 
 abbrev pub withKept : Card → Kept → Card
-withKept r k = cardOf (masters r) k (r .atc) (r .counters) (r .transaction)
+withKept r k = cardOf (masters r) k (r .tries) (r .atc) (r .counters) (r .transaction)
+
+abbrev pub withTries : Card → ℕ → Card
+withTries r n = cardOf (masters r) (kept r) n (r .atc) (r .counters) (r .transaction)
 
 abbrev pub withCounters : Card → ℕ → Counters → Card
-withCounters r atc c = cardOf (masters r) (kept r) atc c (r .transaction)
+withCounters r atc c = cardOf (masters r) (kept r) (r .tries) atc c (r .transaction)
 
--- the counters of their numbers; with the session counter set anew, and with one failure more
+-- the counters of their numbers; with the session counter set anew, with one failure more, and with one PIN decipherment more
 abbrev pub countersAt : ℕ → ℕ → ℕ → ℕ → Counters
 countersAt s f d a = record { session = s; failures = f; decipherments = d; authentications = a }
 
@@ -70,3 +80,6 @@ withSession c n = countersAt n (c .failures) (c .decipherments) (c .authenticati
 
 abbrev pub oneFailed : Counters → Counters
 oneFailed c = countersAt (c .session) (c .failures + 1) (c .decipherments) (c .authentications)
+
+abbrev pub oneMisread : Counters → Counters
+oneMisread c = countersAt (c .session) (c .failures) (c .decipherments + 1) (c .authentications)

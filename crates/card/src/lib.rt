@@ -5,6 +5,7 @@ use message::Command;
 use message::Listed;
 use message::Opened;
 use pin::Counters;
+use pin::PinRead;
 pub use transaction::PendingMark;
 pub use transaction::Phase;
 pub use transaction::Transaction;
@@ -18,12 +19,15 @@ ghost use Rattle.message.specs.Code.{codeFits};
 ghost use Rattle.shapes.specs.declared.command.Command.the-variants.{SetPin};
 ghost use Rattle.shapes.specs.declared.command.Listed.the-variants.{One};
 ghost use Rattle.transaction.specs.Transaction.{spoilt as spoiltOf};
-ghost use Rattle.card.specs.Record.{sound, kept, withTransaction, withKept};
+ghost use Rattle.card.specs.Record.{sound, withTransaction};
 ghost use Rattle.card.specs.Keys.{sessionKeyOf, smiKey, smcKey};
-ghost use Rattle.card.specs.Calls.{plain, arpcFor, countersFor, newMark, pend, settled, accepted, gives, reply, read, step, Open, IssuerAnswer, Script, Close, Withdraw, Counters as CountersCall};
-ghost use Rattle.card.specs.Inner.{takenAs, obeyedAs, judgedAs};
+ghost use Rattle.card.specs.Calls.{plain, arpcFor, countersFor, newMark, pend, settledRecord, isKept, accepted, gives, reply, read, step, Open, IssuerAnswer, Script, Close, Withdraw, Counters as CountersCall, CheckPin};
+ghost use Rattle.card.specs.Inner.{takenAs, obeyedAs, judgedAs, comparedAs};
 ghost use Rattle.card.specs.Words.{Fits};
 ghost use Rattle.card.specs.Personalise.{blank as blankAs, personalised};
+
+// The tries that a PIN has.
+pub const FULL_TRIES: u8 = 3;
 
 // The record.
 pub struct Card {
@@ -35,6 +39,8 @@ pub struct Card {
     pub pin: [u8; 12],
     pub count: u8,
     pub mark: bool,
+    // the tries left for a PIN
+    pub tries: u8,
     // the transaction counter
     pub atc: u16,
     pub counters: Counters,
@@ -56,6 +62,9 @@ fn is_sound(c: Card) -> bool
 {
     let p = c.pin;
     if !pin::pin_fits(&p, c.count as usize, 0) {
+        return false;
+    }
+    if c.tries > FULL_TRIES {
         return false;
     }
     let q = c.transaction.pin;
@@ -132,9 +141,9 @@ fn counters_for(c: Card, ac: &[u64]) -> [u8; 8]
     r.bytes
 }
 
-// What is pending laid over what is kept: the mark and the PIN.
+// What is pending laid over what is kept: the mark, and the PIN with all its tries.
 fn lay(mut c: Card, t: Transaction) -> Card
-    ensures { λ r. ⌜ r ≡ withKept c (settled t (kept c)) ⌝ }
+    ensures { λ r. ⌜ r ≡ settledRecord c t ⌝ }
 {
     let mark = t.mark;
     c.mark = transaction::mark_after(mark, c.mark);
@@ -144,6 +153,7 @@ fn lay(mut c: Card, t: Transaction) -> Card
     let p = t.pin;
     c.pin = p;
     c.count = t.count;
+    c.tries = FULL_TRIES;
     c
 }
 
@@ -268,6 +278,40 @@ fn judge(c: Card, smi: &[u64], smc: &[u64], header: &[u8], message: &[u8]) -> Re
     }
 }
 
+// Whether a block that was read holds the kept PIN.
+fn is_kept(c: Card, x: PinRead) -> bool
+    ensures { λ r. ⌜ r ≡ isKept c x ⌝ }
+{
+    if x.count != c.count {
+        return false;
+    }
+    let p = x.pin;
+    let q = c.pin;
+    octets::same(&p, &q)
+}
+
+// The PIN of an enciphered block against the kept one, of a record with a try left and whose counter can grow: 9, 14.
+fn compare(mut c: Card, smc: &[u64], block: &[u8]) -> Reply
+    requires { ⌜ (0 < c .tries) × (c .counters .decipherments < 65535) ⌝ }
+    ensures { λ r. ⌜ (Fits (now (smc .entry)) (c .smc) → r ≡ comparedAs c (decipherPin (smcKey c) (now (block .entry)))) ⌝ }
+{
+    let master = c.smc;
+    let g = c.transaction.cryptogram;
+    let key = script_key(master, smc, g);
+    let x = pin::decipher_pin(&key, block);
+    if x.code != 0 {
+        let n = c.counters.decipherments + 1;
+        c.counters.decipherments = n;
+        return plainly(c, Refusal::PIN_FORMAT);
+    }
+    if !is_kept(c, x) {
+        c.tries -= 1;
+        return plainly(c, Refusal::WRONG_PIN);
+    }
+    c.tries = FULL_TRIES;
+    plainly(c, 0)
+}
+
 // No record: every call refuses it.
 fn blank() -> Card
     ensures { λ r. ⌜ r ≡ blankAs ⌝ }
@@ -279,6 +323,7 @@ fn blank() -> Card
         pin: [0; 12],
         count: 0,
         mark: false,
+        tries: 0,
         atc: 0,
         counters: Counters {
             session: 0,
@@ -291,7 +336,8 @@ fn blank() -> Card
 }
 
 impl Card {
-    // A fresh record of keys, transaction counter, counter block, block mark (0 or 1) and PIN block in clear; or 1, 9 and a blank record.
+    // A fresh record of keys, transaction counter, counter block, block mark (0 or 1), PIN block in clear and tries left (at most 3); or 1, 9 and
+    // a blank record.
     pub fn personalise(
         ac: [u8; 32],
         smi: [u8; 32],
@@ -300,10 +346,14 @@ impl Card {
         counters: [u8; 8],
         mark: u8,
         block: [u8; 8],
+        tries: u8,
     ) -> Reply
-        ensures { λ r. ⌜ r ≡ personalised ac smi smc atc counters mark block ⌝ }
+        ensures { λ r. ⌜ r ≡ personalised ac smi smc atc counters mark block tries ⌝ }
     {
         if mark > 1 {
+            return plainly(blank(), Refusal::INPUT);
+        }
+        if tries > FULL_TRIES {
             return plainly(blank(), Refusal::INPUT);
         }
         let x = pin::read_block(block);
@@ -318,6 +368,7 @@ impl Card {
             pin: p,
             count: x.count,
             mark: mark == 1,
+            tries,
             atc,
             counters: pin::read_counters(counters),
             transaction: transaction::no_transaction(),
@@ -428,6 +479,36 @@ impl Card {
         let mut d = lay(self, t);
         d.transaction = transaction::no_transaction();
         plainly(d, 0)
+    }
+
+    // A PIN check, of a block under the transaction's key: 6, 1, 15, 7, 9, 14. The kept PIN is compared, not the pending one.
+    pub fn check_pin(self, block: &[u8]) -> Reply
+        ensures { λ r. ⌜ r ≡ step self (CheckPin (now (block .entry))) ⌝ }
+    {
+        self.check_pin_kept(&[], block)
+    }
+
+    pub fn check_pin_kept(self, smc: &[u64], block: &[u8]) -> Reply
+        ensures { λ r. ⌜ (Fits (now (smc .entry)) (self .smc) → r ≡ step self (CheckPin (now (block .entry)))) ⌝ }
+    {
+        if !is_sound(self) {
+            return plainly(self, Refusal::INPUT);
+        }
+        let t = self.transaction;
+        let phase = t.phase;
+        if !transaction::is_open(phase) {
+            return plainly(self, Refusal::PHASE_WRONG);
+        }
+        if block.len() != 8 {
+            return plainly(self, Refusal::INPUT);
+        }
+        if self.tries == 0 {
+            return plainly(self, Refusal::NO_TRIES);
+        }
+        if self.counters.decipherments == 65535 {
+            return plainly(self, Refusal::COUNTER_FULL);
+        }
+        compare(self, smc, block)
     }
 
     // Withdraw, which drops what is pending.

@@ -2,7 +2,7 @@
 use Prim.Native.Nat.{ℕ, zero, suc, _≤_}
 use native.Mathlib.Omega.{arith}
 use mathlib.Core.Path.{_≡_, refl, ap, _∙_}
-use mathlib.Core.Bool.{Bool, true, false, not, _&&_, cond, and-eq-true-iff}
+use mathlib.Core.Bool.{Bool, true, false, not, _&&_, _||_, cond, and-eq-true-iff}
 use mathlib.Core.List.{List, [], _∷_, _++_, map, flatMap}
 use lib.Dec.{eqb, leb}
 use lib.ListN.{length, getD, take, drop}
@@ -11,12 +11,12 @@ use Rattle.transaction.specs.Transaction.{isOpen}
 use Rattle.card.specs.declared.Card.{Card}
 use Rattle.card.specs.declared.Reply.{Reply}
 use Rattle.card.specs.Record.{sound}
-use Rattle.card.specs.Calls.{Call, Open, IssuerAnswer, Script, Close, Withdraw, Counters, plain, step}
+use Rattle.card.specs.Calls.{Call, Open, IssuerAnswer, Script, Close, Withdraw, Counters, plain, step, CheckPin}
 use Rattle.card.specs.Personalise.{blank}
 use Rattle.lines.specs.declared.Held.{Held}
 use Rattle.lines.specs.Lines.{longest, lastFrame, hexadecimal, octetsOf, readable, readableUnder, lines, lineFor}
 use Rattle.lines.specs.Answers.{nothing, LineAnswer, numbered, octetsFor, replied}
-use Rattle.frames.specs.Frames.{personalisedBy, starts as startsNow, overlong, calledUnder, callingUnder, framed, framedUnder, answerTo, answerToUnder}
+use Rattle.frames.specs.Frames.{personalisedByUnder, starts as startsNow, overlong, calledUnder, callingUnder, framed, framedUnder, answerTo, answerToUnder}
 use Rattle.trace.specs.Traced.{answers, answersUnder, traced, tracedUnder}
 use Rattle.history.specs.Run.{Loading, personalisedWith, frame, ours}
 use Rattle.dispatch.specs.Dispatch.{Frame, unreadable, misfit, personalise, call, surplus, loadingIn, alone, frameOf, frameIn}
@@ -87,8 +87,8 @@ alone-so h c s = go (eqb (length s) 0) refl
     go false e = rw e (surplus-so h c s)
 
 pub by-frame : (h : Held) (f : ℕ) (s : List ℕ) → f ≤ lastFrame → framed h f s ≡ now h (frameOf f s)
-unfolding framedUnder frameOf callingUnder calledUnder personalisedBy overlong
-by-frame h zero s p = go (eqb (length s) 115)
+unfolding framedUnder frameOf callingUnder calledUnder personalisedByUnder overlong
+by-frame h zero s p = go (eqb (length s) 115 || eqb (length s) 116)
   where
     go : (e : Bool) → startsNow h (cond e (personalisedWith (loadingIn s)) (plain blank 1)) ≡ now h (cond e (personalise (loadingIn s)) misfit)
     go true = loads-so h (loadingIn s)
@@ -99,7 +99,8 @@ by-frame h (suc (suc (suc zero))) s p = call-so h (Script (take 4 s) (drop 4 s))
 by-frame h (suc (suc (suc (suc zero)))) s p = alone-so h Close s
 by-frame h (suc (suc (suc (suc (suc zero))))) s p = alone-so h Withdraw s
 by-frame h (suc (suc (suc (suc (suc (suc zero)))))) s p = alone-so h Counters s
-by-frame h (suc (suc (suc (suc (suc (suc (suc f))))))) s p = absurd (omega arith)
+by-frame h (suc (suc (suc (suc (suc (suc (suc zero))))))) s p = call-so h (CheckPin s)
+by-frame h (suc (suc (suc (suc (suc (suc (suc (suc f)))))))) s p = absurd (omega arith)
 
 pub first-small : (l : List ℕ) → readable l ≡ true → getD (octetsOf l) 0 0 ≤ lastFrame
 unfolding readableUnder

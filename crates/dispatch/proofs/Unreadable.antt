@@ -8,10 +8,10 @@ use mathlib.Core.List.{List, [], _∷_}
 use lib.Dec.{eqb, leb}
 use lib.ListN.{length, getD, drop}
 use Rattle.answers.specs.declared.Refusal.{Refusal}
-use Rattle.answers.specs.declared.Refusal.the-variants.{Input, ShapeWrong, PhaseWrong, CounterFull, CodeDiffers, PinFormat, SpoiltClosed, ArpcDiffers}
+use Rattle.answers.specs.declared.Refusal.the-variants.{Input, ShapeWrong, PhaseWrong, CounterFull, CodeDiffers, PinFormat, SpoiltClosed, ArpcDiffers, NoTries, WrongPin}
 use Rattle.answers.specs.Refusals.{number}
 use Rattle.octets.specs.Same.{same}
-use Rattle.pin.specs.Answers.{readBlock}
+use Rattle.pin.specs.Answers.{readBlock, decipherPin}
 use Rattle.shapes.specs.declared.command.Listed.{Listed}
 use Rattle.shapes.specs.declared.command.Listed.the-variants.{One, Unlisted}
 use Rattle.shapes.specs.Shape.{lengthOf, tagOf, shape}
@@ -19,8 +19,9 @@ use Rattle.shapes.specs.Command.{commandOf}
 use Rattle.shapes.proofs.CommandLaws.{why-unlisted}
 use Rattle.transaction.specs.Transaction.{isOpen, isArqc}
 use Rattle.card.specs.declared.Card.{Card}
-use Rattle.card.specs.Record.{sound}
-use Rattle.card.specs.Calls.{Call, Open, IssuerAnswer, Script, Close, Withdraw, Counters, Check, strikes, Verdict, refuse, accept, firstStruck, read, unlisted, whyUnlisted, unread, judgedScript, arpcFor, judged, judgedUnder, Answer as CallAnswer, only, gives, dueBy, due, dueUnder}
+use Rattle.card.specs.Keys.{smcKey}
+use Rattle.card.specs.Record.{sound, fullTries}
+use Rattle.card.specs.Calls.{Call, Open, IssuerAnswer, Script, Close, Withdraw, Counters, Check, strikes, Verdict, refuse, accept, firstStruck, read, unlisted, whyUnlisted, unread, judgedScript, arpcFor, judged, judgedUnder, Answer as CallAnswer, only, gives, dueBy, due, dueUnder, CheckPin, isKept}
 use Rattle.card.specs.Personalise.{fresh, loading, loadedBy, personalised}
 use Rattle.lines.specs.declared.Held.{Held}
 use Rattle.lines.specs.Lines.{lastFrame, octetsOf, readable}
@@ -86,6 +87,24 @@ not-judged r (Script h m) =
         three (eqb (r .counters .failures) 65535) (not (read r h m .coded)) (unread (read r h m .command) (read r h m .block)) CounterFull CodeDiffers PinFormat refl refl refl
 not-judged r Close = two (not (isOpen (r .transaction .phase))) (r .transaction .spoilt) PhaseWrong SpoiltClosed refl refl
 not-judged r Withdraw = refl
+not-judged r (CheckPin b) =
+    six (not (isOpen (r .transaction .phase))) (not (eqb (length b) 8)) (eqb (r .tries) 0) (eqb (r .counters .decipherments) 65535)
+    (not (eqb (decipherPin (smcKey r) b .code) 0)) (not (isKept r (decipherPin (smcKey r) b)))
+  where
+    six : (o l t f p k : Bool)
+        → asThirteen
+        (firstStruck
+        (strikes o PhaseWrong
+        ∷ strikes l Input
+        ∷ strikes t NoTries
+        ∷ strikes f CounterFull
+        ∷ strikes p PinFormat
+        ∷ strikes k WrongPin
+        ∷ [])) ≡ false
+    six true l t f p k = refl
+    six false true t f p k = refl
+    six false false true f p k = refl
+    six false false false f p k = three f p k CounterFull PinFormat WrongPin refl refl refl
 not-judged r Counters = two (not (isOpen (r .transaction .phase))) false PhaseWrong PhaseWrong refl refl
 
 not-given : (r : Card) (c : Call) → thirteen (gives r c .number) ≡ false
@@ -95,6 +114,7 @@ not-given r (Script h m) = refl
 not-given r Close = refl
 not-given r Withdraw = refl
 not-given r Counters = refl
+not-given r (CheckPin b) = refl
 
 not-due : (r : Card) (c : Call) → thirteen (due r c .number) ≡ false
 unfolding dueUnder
@@ -107,9 +127,11 @@ not-due r c = go (sound r) (judged r c) (not-judged r c)
 
 not-loaded : (x : Loading) → thirteen (personalisedWith x .code) ≡ false
 unfolding personalised
-not-loaded x = go (loading (x .mark) (x .block)) (two (not (leb (x .mark) 1)) (not (eqb (readBlock (x .block) .code) 0)) Input PinFormat refl refl)
+not-loaded x =
+    go (loading (x .mark) (x .block) (x .tries))
+    (three (not (leb (x .mark) 1)) (not (leb (x .tries) fullTries)) (not (eqb (readBlock (x .block) .code) 0)) Input Input PinFormat refl refl refl)
   where
-    go : (v : Verdict) → asThirteen v ≡ false → thirteen (loadedBy (fresh (x .ac) (x .smi) (x .smc) (x .atc) (x .counters) (x .mark) (x .block)) v .code) ≡ false
+    go : (v : Verdict) → asThirteen v ≡ false → thirteen (loadedBy (fresh (x .ac) (x .smi) (x .smc) (x .atc) (x .counters) (x .mark) (x .block) (x .tries)) v .code) ≡ false
     go (refuse q) e = e
     go accept e = refl
 
@@ -172,7 +194,7 @@ alone-read c s = go (eqb (length s) 0)
 
 frame-read : (f : ℕ) (s : List ℕ) → f ≤ lastFrame → isRead (frameOf f s) ≡ true
 unfolding frameOf isRead
-frame-read zero s p = go (eqb (length s) 115)
+frame-read zero s p = go (eqb (length s) 115 || eqb (length s) 116)
   where
     go : (e : Bool) → isRead (cond e (personalise (loadingIn s)) misfit) ≡ true
     go true = refl
@@ -183,7 +205,8 @@ frame-read (suc (suc (suc zero))) s p = refl
 frame-read (suc (suc (suc (suc zero)))) s p = alone-read Close s
 frame-read (suc (suc (suc (suc (suc zero))))) s p = alone-read Withdraw s
 frame-read (suc (suc (suc (suc (suc (suc zero)))))) s p = alone-read Counters s
-frame-read (suc (suc (suc (suc (suc (suc (suc f))))))) s p = absurd (omega arith)
+frame-read (suc (suc (suc (suc (suc (suc (suc zero))))))) s p = refl
+frame-read (suc (suc (suc (suc (suc (suc (suc (suc f)))))))) s p = absurd (omega arith)
 
 pub of-unreadable : (h : Held) (l : List ℕ) → (answerTo h l .octets ≡ 13 ∷ []) ↔ (readable l ≡ false)
 unfolding answerToUnder first

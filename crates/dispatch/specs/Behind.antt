@@ -45,7 +45,7 @@ octetsIn (did c a) = octetsFor (frame c) (reply blank a)
 abbrev pub surplusNumber : Card → Call → ℕ
 surplusNumber r c = cond (eqb (frame c) 5) (number Input) (overlong r .code)
 
--- "A second accepted 00 starts a new history"; refused, it leaves what is held. "Before a record exists, frames 01 to 06 answer 6."
+-- "A second accepted 00 starts a new history"; refused, it leaves what is held. "Before a record exists, frames 01 to 06 answer 6.", and 07
 unfoldable pub answered : (b : AnyBox) → HeldBy b → Frame → AnswerBy b
 answered b h unreadable = numberBy b h (number Unreadable)
 answered b h misfit = numberBy b h (number Input)

@@ -4,7 +4,7 @@ use native.Mathlib.Omega.{arith}
 use native.Mathlib.Nat.{zero-lt-suc}
 use native.Mathlib.Numerals.{sub-one}
 use mathlib.Core.Path.{_≡_, refl, sym, ap, ap₂, _∙_}
-use mathlib.Core.Bool.{Bool, true, false, not, _&&_, cond, and-eq-true-iff}
+use mathlib.Core.Bool.{Bool, true, false, not, _&&_, _||_, cond, and-eq-true-iff}
 use mathlib.Core.List.{List, [], _∷_, _++_}
 use lib.Dec.{leb, eqb}
 use lib.ListN.{length, getD, take, drop, length-take, length-drop, drop-of-length-le}
@@ -17,28 +17,47 @@ use Rattle.transaction.specs.Transaction.{isOpen}
 use Rattle.card.specs.declared.Card.{Card}
 use Rattle.card.specs.declared.Reply.{Reply}
 use Rattle.card.specs.Record.{sound}
-use Rattle.card.specs.Calls.{judgedUnder, dueUnder, afterUnder, plain, step, Open, IssuerAnswer, Script, Close, Withdraw, Counters}
+use Rattle.card.specs.Calls.{judgedUnder, dueUnder, afterUnder, plain, step, Open, IssuerAnswer, Script, Close, Withdraw, Counters, CheckPin}
 use Rattle.card.specs.Personalise.{personalised}
 use Rattle.lines.specs.declared.Held.{Held}
 use Rattle.lines.specs.declared.Said.{Said}
 use Rattle.lines.specs.Lines.{longest, keptSigns, lastFrame, legible, hexadecimal, octetsOf, readable, readableUnder}
 use Rattle.lines.specs.Answers.{LineAnswer, holding, numbered, replied}
 use Rattle.lines.specs.Said.{said}
-use Rattle.frames.specs.Frames.{part, personalisedBy, starts, overlong, bare, called, calledUnder, callingUnder, framed, framedUnder, answerTo, answerToUnder}
+use Rattle.frames.specs.Frames.{part, triesIn, personalisedBy, personalisedByUnder, starts, overlong, bare, called, calledUnder, callingUnder, framed, framedUnder, answerTo, answerToUnder}
 
 -- 00
-pub fresh-made : (s ac smi smc cs b : List ℕ) (atc : ℕ) (p : Reply) → length s ≡ 115
-    → ac ≡ part 0 32 s → smi ≡ part 32 32 s → smc ≡ part 64 32 s → atc ≡ be (getD s 96 0 ∷ getD s 97 0 ∷ []) → cs ≡ part 98 8 s → b ≡ part 107 8 s
-    → p ≡ personalised ac smi smc atc cs (getD s 106 0) b → p ≡ personalisedBy s
-unfolding personalisedBy part
-fresh-made s ac smi smc cs b atc p l e1 e2 e3 e4 e5 e6 e =
-    let n : atc ≡ be (take 2 (drop 96 s)) = e4 ∙ ap be (sym (elements-part s 96 2 (omega arith))) in
-    e ∙ rw (e1, e2, e3, n, e5, e6, eq-eqb _ _ l)
+loads : (n : ℕ) → 115 ≤ n → n ≤ 116 → (eqb n 115 || eqb n 116) ≡ true
+loads n a b = go (eqb n 115) refl
+  where
+    go : (x : Bool) → eqb n 115 ≡ x → (x || eqb n 116) ≡ true
+    go true e = refl
+    go false e = let z : n ≡ 115 → ⊥ = eqb-false n 115 e in eq-eqb n 116 (omega arith)
+
+pub tries-given : (s : List ℕ) → length s ≡ 116 → getD s 115 0 ≡ triesIn s
+tries-given s e = rw (eq-eqb _ _ e)
+
+pub tries-full : (s : List ℕ) → (length s ≡ 116 → ⊥) → 3 ≡ triesIn s
+tries-full s n = rw (ne-eqb _ _ n)
+
+pub fresh-made : (s ac smi smc cs b : List ℕ) (atc n : ℕ) (p : Reply) → (115 ≤ length s) × (length s ≤ 116)
+    → ac ≡ part 0 32 s → smi ≡ part 32 32 s → smc ≡ part 64 32 s → atc ≡ be (getD s 96 0 ∷ getD s 97 0 ∷ []) → cs ≡ part 98 8 s → b ≡ part 107 8 s → n ≡ triesIn s
+    → p ≡ personalised ac smi smc atc cs (getD s 106 0) b n → p ≡ personalisedBy s
+unfolding personalisedByUnder part
+fresh-made s ac smi smc cs b atc n p l e1 e2 e3 e4 e5 e6 e7 e =
+    let x = l .0 in
+    let y = l .1 in
+    let c : atc ≡ be (take 2 (drop 96 s)) = e4 ∙ ap be (sym (elements-part s 96 2 (omega arith))) in
+    e ∙ rw (e1, e2, e3, c, e5, e6, e7, loads (length s) x y)
 
 module _ (h : Held) (s : List ℕ) (x : Said) where
-  pub starts-length : (length s ≡ 115 → ⊥) → x ≡ said (numbered h 1) → x ≡ said (starts h (personalisedBy s))
-  unfolding personalisedBy starts
-  starts-length n e = e ∙ rw (ne-eqb _ _ n)
+  pub starts-short : length s < 115 → x ≡ said (numbered h 1) → x ≡ said (starts h (personalisedBy s))
+  unfolding personalisedByUnder starts
+  starts-short n e = e ∙ rw (ne-eqb (length s) 115 (λ z. omega arith), ne-eqb (length s) 116 (λ z. omega arith))
+
+  pub starts-long : 116 < length s → x ≡ said (numbered h 1) → x ≡ said (starts h (personalisedBy s))
+  unfolding personalisedByUnder starts
+  starts-long n e = e ∙ rw (ne-eqb (length s) 115 (λ z. omega arith), ne-eqb (length s) 116 (λ z. omega arith))
 
   pub starts-refused : (p : Reply) → p ≡ personalisedBy s → (p .code ≡ 0 → ⊥) → x ≡ said (numbered h (p .code)) → x ≡ said (starts h (personalisedBy s))
   unfolding starts
@@ -97,7 +116,7 @@ bare-not s a b x h e = e ∙ rw (ne-eqb _ _ h)
 pub bare-so : (s : List ℕ) (a b x : Reply) → length s ≡ 0 → x ≡ a → x ≡ bare s a b
 bare-so s a b x h e = e ∙ rw (eq-eqb _ _ h)
 
--- 01 to 06
+-- 01 to 07
 module _ (r : Card) (f : ℕ) (s : List ℕ) (x : Reply) where
   pub called-1 : f ≡ 1 → x ≡ step r (Open s) → x ≡ called r f s
   unfolding calledUnder
@@ -119,10 +138,15 @@ module _ (r : Card) (f : ℕ) (s : List ℕ) (x : Reply) where
   unfolding calledUnder
   called-5 h e = e ∙ rw h
 
-  pub called-6 : None 1 5 f → x ≡ bare s (step r Counters) (overlong r) → x ≡ called r f s
+  pub called-6 : f ≡ 6 → x ≡ bare s (step r Counters) (overlong r) → x ≡ called r f s
   unfolding calledUnder
-  called-6 n e =
-      e ∙ rw (ne-eqb _ _ (n .0 .0 .0 .0 .1), ne-eqb _ _ (n .0 .0 .0 .1), ne-eqb _ _ (n .0 .0 .1), ne-eqb _ _ (n .0 .1), ne-eqb _ _ (n .1))
+  called-6 h e = e ∙ rw h
+
+  pub called-7 : None 1 6 f → x ≡ step r (CheckPin s) → x ≡ called r f s
+  unfolding calledUnder
+  called-7 n e =
+      e
+      ∙ rw (ne-eqb _ _ (n .0 .0 .0 .0 .0 .1), ne-eqb _ _ (n .0 .0 .0 .0 .1), ne-eqb _ _ (n .0 .0 .0 .1), ne-eqb _ _ (n .0 .0 .1), ne-eqb _ _ (n .0 .1), ne-eqb _ _ (n .1))
 
 -- a frame
 module _ (h : Held) (f : ℕ) (s : List ℕ) (x : Said) where

@@ -8,7 +8,7 @@ use lib.ListN.{length, take, drop, getD}
 use borrow.Author.Tests.{ne-eqb}
 use Rattle.card.specs.declared.Card.{Card}
 use Rattle.card.specs.Record.{masters}
-use Rattle.card.specs.Calls.{Open, IssuerAnswer, Script, Close, Withdraw, Counters, plain, step}
+use Rattle.card.specs.Calls.{Open, IssuerAnswer, Script, Close, Withdraw, Counters, CheckPin, plain, step}
 use Rattle.card.proofs.MasterLaws.{masters-stay}
 use Rattle.lines.specs.declared.Held.{Held}
 use Rattle.lines.specs.Lines.{octetsOf, readable}
@@ -17,24 +17,25 @@ use Rattle.frames.specs.Frames.{overlong, called, calledUnder, calling, 
 
 masters-called : (r : Card) (f : ℕ) (s : List ℕ) → masters (called r f s .card) ≡ masters r
 unfolding calledUnder overlong
-masters-called r f s = go (eqb f 1) (eqb f 2) (eqb f 3) (eqb f 4) (eqb f 5) (eqb (length s) 0)
+masters-called r f s = go (eqb f 1) (eqb f 2) (eqb f 3) (eqb f 4) (eqb f 5) (eqb f 6) (eqb (length s) 0)
   where
-    go : (a b c d e z : Bool)
+    go : (a b c d e g z : Bool)
         → masters
         (cond a (step r (Open s))
         (cond b (step r (IssuerAnswer (take 8 s) (drop 8 s)))
         (cond c (step r (Script (take 4 s) (drop 4 s)))
-        (cond d (cond z (step r Close) (overlong r)) (cond e (cond z (step r Withdraw) (plain r 1)) (cond z (step r Counters) (overlong r)))))) .card)
+        (cond d (cond z (step r Close) (overlong r)) (cond e (cond z (step r Withdraw) (plain r 1)) (cond g (cond z (step r Counters) (overlong r)) (step r (CheckPin s))))))) .card)
         ≡ masters r
-    go true b c d e z = masters-stay r (Open s)
-    go false true c d e z = masters-stay r (IssuerAnswer (take 8 s) (drop 8 s))
-    go false false true d e z = masters-stay r (Script (take 4 s) (drop 4 s))
-    go false false false true e true = masters-stay r Close
-    go false false false true e false = refl
-    go false false false false true true = masters-stay r Withdraw
-    go false false false false true false = refl
-    go false false false false false true = masters-stay r Counters
-    go false false false false false false = refl
+    go true b c d e g z = masters-stay r (Open s)
+    go false true c d e g z = masters-stay r (IssuerAnswer (take 8 s) (drop 8 s))
+    go false false true d e g z = masters-stay r (Script (take 4 s) (drop 4 s))
+    go false false false true e g true = masters-stay r Close
+    go false false false true e g false = refl
+    go false false false false true g true = masters-stay r Withdraw
+    go false false false false true g false = refl
+    go false false false false false true true = masters-stay r Counters
+    go false false false false false true false = refl
+    go false false false false false false z = masters-stay r (CheckPin s)
 
 masters-calling : (h : Held) (f : ℕ) (s : List ℕ) → masters (calling h f s .after .card) ≡ masters (h .card)
 unfolding callingUnder replied

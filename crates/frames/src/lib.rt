@@ -1,6 +1,7 @@
 // The clerk's trace, one line: a hexadecimal frame, and what answers it.
 use answers::Refusal;
 use card::Card;
+use card::FULL_TRIES;
 use card::Reply;
 pub use lines::Held;
 pub use lines::LONGEST_ANSWER;
@@ -17,7 +18,7 @@ ghost use Rattle.card.specs.Record.{masters};
 ghost use Rattle.card.specs.Words.{Fits, FitAll};
 ghost use Rattle.lines.specs.Lines.{longest, hexadecimal, octetsOf};
 ghost use Rattle.lines.specs.Said.{said};
-ghost use Rattle.frames.specs.Frames.{part, personalisedBy, starts, overlong, bare, called, framed, answerTo};
+ghost use Rattle.frames.specs.Frames.{part, triesIn, personalisedBy, starts, overlong, bare, called, framed, answerTo};
 
 // The most digits of a line, how many signs of one are kept, how many octets it has, and the last frame.
 pub const LONGEST: usize = 538;
@@ -26,7 +27,7 @@ pub const KEPT: usize = LONGEST + 1;
 
 const OCTETS: usize = LONGEST / 2;
 
-const LAST_FRAME: u8 = 6;
+const LAST_FRAME: u8 = 7;
 
 // The octets of a line's digits, at the start of the array.
 fn octets_of(text: &[u8]) -> [u8; OCTETS]
@@ -71,9 +72,19 @@ fn block_at(frame: &[u8], at: usize) -> [u8; 8]
     block
 }
 
-// The record that frame 00 makes of the 115 bytes after its first.
+// The tries that frame 00 ends in, or all.
+fn tries_in(rest: &[u8]) -> u8
+    ensures { λ r. ⌜ r ≡ triesIn (now (rest .entry)) ⌝ }
+{
+    if rest.len() == 116 {
+        return rest[115];
+    }
+    FULL_TRIES
+}
+
+// The record that frame 00 makes of the 115 or 116 bytes after its first.
 fn fresh(rest: &[u8]) -> Reply
-    requires { ⌜ length (now rest) ≡ 115 ⌝ }
+    requires { ⌜ (115 ≤ length (now rest)) × (length (now rest) ≤ 116) ⌝ }
     ensures { λ r. ⌜ r ≡ personalisedBy (now (rest .entry)) ⌝ }
 {
     let ac = key_at(rest, 0);
@@ -82,14 +93,18 @@ fn fresh(rest: &[u8]) -> Reply
     let atc = octets::high_low(rest[96], rest[97]);
     let counters = block_at(rest, 98);
     let block = block_at(rest, 107);
-    Card::personalise(ac, smi, smc, atc, counters, rest[106], block)
+    let tries = tries_in(rest);
+    Card::personalise(ac, smi, smc, atc, counters, rest[106], block, tries)
 }
 
 // Frame 00 after its first byte: a new record, or the old one and 1, 9.
 fn personalise(held: Held, rest: &[u8]) -> Said
     ensures { λ r. ⌜ r ≡ said (starts held (personalisedBy (now (rest .entry)))) ⌝ }
 {
-    if rest.len() != 115 {
+    if rest.len() < 115 {
+        return lines::short(held, Refusal::INPUT);
+    }
+    if rest.len() > 116 {
         return lines::short(held, Refusal::INPUT);
     }
     let p = fresh(rest);
@@ -171,7 +186,7 @@ fn counter_block(card: Card, ac: &[u64], rest: &[u8]) -> Reply
     card.counter_block_kept(ac)
 }
 
-// What the card answers to a frame 01 to 06.
+// What the card answers to a frame 01 to 07.
 fn call(card: Card, ac: &[u64], smi: &[u64], smc: &[u64], tag: u8, rest: &[u8]) -> Reply
     ensures { λ r. ⌜ (FitAll (now (ac .entry)) (now (smi .entry)) (now (smc .entry)) (masters card) → r ≡ called card tag (now (rest .entry))) ⌝ }
 {
@@ -181,7 +196,8 @@ fn call(card: Card, ac: &[u64], smi: &[u64], smc: &[u64], tag: u8, rest: &[u8]) 
         3 => script(card, smi, smc, rest),
         4 => close(card, rest),
         5 => withdraw(card, rest),
-        _ => counter_block(card, ac, rest),
+        6 => counter_block(card, ac, rest),
+        _ => card.check_pin_kept(smc, rest),
     }
 }
 

@@ -9,8 +9,8 @@ use Rattle.transaction.specs.declared.Phase.the-variants.{Aac}
 use Rattle.transaction.specs.Transaction.{isUnmarked, none, justOpened}
 use Rattle.card.specs.declared.Card.{Card}
 use Rattle.card.specs.declared.Reply.{Reply}
-use Rattle.card.specs.Record.{withTransaction}
-use Rattle.card.specs.Calls.{Open, IssuerAnswer, Script, Close, Withdraw, Counters, grown, plain, step}
+use Rattle.card.specs.Record.{withTransaction, kept, withKept, withTries, fullTries}
+use Rattle.card.specs.Calls.{Open, IssuerAnswer, Script, Close, Withdraw, Counters, grown, plain, step, CheckPin, settled}
 use Rattle.history.specs.Run.{Box}
 
 -- "One refusing everything"
@@ -29,6 +29,7 @@ constantCryptogram r (Script h m) = step r (Script h m)
 constantCryptogram r Close = step r Close
 constantCryptogram r Withdraw = step r Withdraw
 constantCryptogram r Counters = step r Counters
+constantCryptogram r (CheckPin b) = step r (CheckPin b)
 
 -- "One that does nothing": its Close keeps nothing
 abbrev pub doesNothing : Box
@@ -38,6 +39,7 @@ doesNothing r (Script h m) = step r (Script h m)
 doesNothing r Close = cond (eqb (step r Close .code) 0) (plain (withTransaction r none) 0) (step r Close)
 doesNothing r Withdraw = step r Withdraw
 doesNothing r Counters = step r Counters
+doesNothing r (CheckPin b) = step r (CheckPin b)
 
 -- "One that honours only the first command of a transaction": with something pending, it takes no more
 abbrev pub hasPending : Transaction → Bool
@@ -50,6 +52,7 @@ firstOnly r (Script h m) = cond (hasPending (r .transaction) && eqb (step r (Scr
 firstOnly r Close = step r Close
 firstOnly r Withdraw = step r Withdraw
 firstOnly r Counters = step r Counters
+firstOnly r (CheckPin b) = step r (CheckPin b)
 
 -- "A box with made-up counters": they grow with every call
 abbrev pub madeUpCounters : Box
@@ -73,6 +76,7 @@ storedAsAac r (Script h m) = step r (Script h m)
 storedAsAac r Close = step r Close
 storedAsAac r Withdraw = step r Withdraw
 storedAsAac r Counters = step r Counters
+storedAsAac r (CheckPin b) = step r (CheckPin b)
 
 -- one forgets the cryptogram at Counters
 abbrev pub wiped : Transaction → Transaction
@@ -85,3 +89,28 @@ wipes r (Script h m) = step r (Script h m)
 wipes r Close = step r Close
 wipes r Withdraw = step r Withdraw
 wipes r Counters = record { card = withTransaction r (wiped (r .transaction)); code = step r Counters .code; kind = 0; bytes = step r Counters .bytes }
+wipes r (CheckPin b) = step r (CheckPin b)
+
+-- "only the kept PIN is compared": one compares the pending PIN, where there is one;
+abbrev pub asPending : Card → Card
+asPending r = withKept r (settled (r .transaction) (kept r))
+
+abbrev pub comparesPending : Box
+comparesPending r (Open d) = step r (Open d)
+comparesPending r (IssuerAnswer x u) = step r (IssuerAnswer x u)
+comparesPending r (Script h m) = step r (Script h m)
+comparesPending r Close = step r Close
+comparesPending r Withdraw = step r Withdraw
+comparesPending r Counters = step r Counters
+comparesPending r (CheckPin b) =
+    plain (withKept (step (asPending r) (CheckPin b) .card) (kept r)) (step (asPending r) (CheckPin b) .code)
+
+-- "Tries and this counter stay after Withdraw": one gives the tries back
+abbrev pub givesBack : Box
+givesBack r (Open d) = step r (Open d)
+givesBack r (IssuerAnswer x u) = step r (IssuerAnswer x u)
+givesBack r (Script h m) = step r (Script h m)
+givesBack r Close = step r Close
+givesBack r Withdraw = plain (withTries (step r Withdraw .card) fullTries) (step r Withdraw .code)
+givesBack r Counters = step r Counters
+givesBack r (CheckPin b) = step r (CheckPin b)

@@ -1,5 +1,5 @@
 -- What a call does to a sound record, case by case: the conditions of every call opened once. Assumes nothing.
-use Prim.Native.Nat.{ℕ}
+use Prim.Native.Nat.{ℕ, _-_}
 use mathlib.Core.Path.{_≡_, refl, sym, ap, subst, _∙_}
 use mathlib.Core.List.{List, [], _∷_}
 use mathlib.Core.Bool.{Bool, true, false, not, _&&_, _||_, true≢false, false≢true}
@@ -7,7 +7,7 @@ use lib.ListN.{length}
 use lib.Dec.{eqb}
 use borrow.Author.Tests.{eqb-true, eqb-false, eq-eqb, not-false}
 use Rattle.answers.specs.declared.Refusal.{Refusal}
-use Rattle.answers.specs.declared.Refusal.the-variants.{Input, ShapeWrong, NotListed, PhaseWrong, CounterFull, CodeDiffers, PinFormat, SpoiltClosed, ArpcDiffers}
+use Rattle.answers.specs.declared.Refusal.the-variants.{Input, ShapeWrong, NotListed, PhaseWrong, CounterFull, CodeDiffers, PinFormat, SpoiltClosed, ArpcDiffers, WrongPin, NoTries}
 use Rattle.answers.specs.Refusals.{number}
 use Rattle.octets.specs.Same.{same}
 use Rattle.shapes.specs.declared.command.Command.{Command}
@@ -26,9 +26,9 @@ use Rattle.transaction.specs.declared.Phase.the-variants.{Idle, Arqc, Aac}
 use Rattle.transaction.specs.Transaction.{isOpen, none, spoilt, isArqc}
 use Rattle.card.specs.declared.Card.{Card}
 use Rattle.card.specs.declared.Reply.{Reply}
-use Rattle.card.specs.Record.{sound as isSound, withTransaction, withCounters, oneFailed}
+use Rattle.card.specs.Record.{sound as isSound, withTransaction, withCounters, oneFailed, withTries, oneMisread, fullTries}
 use Rattle.card.specs.Keys.{smiKey, smcKey}
-use Rattle.card.specs.Calls.{Call, Open, IssuerAnswer, Script, Close, Withdraw, Counters}
+use Rattle.card.specs.Calls.{Call, Open, IssuerAnswer, Script, Close, Withdraw, Counters, CheckPin, isKept}
 use Rattle.card.specs.Calls.{Verdict, refuse, strikes, firstStruck, read, unlisted, whyUnlisted, unread, judgedScript, arpcFor, judged, judgedUnder, only, gives, accepted, refused, dueBy, afterBy, dueUnder, afterUnder, reply, plain, step}
 use Rattle.history.specs.Demand2.{Accepts, Differs}
 
@@ -64,6 +64,7 @@ mild (Script h m) = false
 mild Close = false
 mild Withdraw = false
 mild Counters = true
+mild (CheckPin b) = false
 
 pub data Change (r : Card) : Call → Reply → Type 0 where
   quiet : {c : Call} (q : Refusal) → mild c ≡ true → Change r c (plain r (number q))
@@ -78,6 +79,10 @@ pub data Change (r : Card) : Call → Reply → Type 0 where
   dropped : isOpen (r .transaction .phase) ≡ true → r .transaction .spoilt ≡ true → Change r Close (plain (withTransaction r none) 10)
   closed : isOpen (r .transaction .phase) ≡ true → r .transaction .spoilt ≡ false → Change r Close (plain (accepted r Close) 0)
   withdrew : Change r Withdraw (plain (withTransaction r none) 0)
+  spared : {b : List ℕ} (q : Refusal) → eqb (number q) 9 ≡ false → eqb (number q) 14 ≡ false → Change r (CheckPin b) (plain r (number q))
+  misread : {b : List ℕ} → Change r (CheckPin b) (plain (withCounters r (r .atc) (oneMisread (r .counters))) 9)
+  mistaken : {b : List ℕ} → Change r (CheckPin b) (plain (withTries r (r .tries - 1)) 14)
+  recognised : {b : List ℕ} → Change r (CheckPin b) (plain (withTries r fullTries) 0)
 
 arqc-open : (p : Phase) → isArqc p ≡ true → isOpen p ≡ true
 arqc-open Idle e = e
@@ -132,6 +137,31 @@ module _ (r : Card) (ok : isSound r ≡ true) where
       go : (o : Bool) → Change r Counters (by r Counters (firstStruck (strikes (not o) PhaseWrong ∷ [])))
       go false = quiet PhaseWrong refl
       go true = counted
+
+  of-check : (b : List ℕ) → Change r (CheckPin b) (by r (CheckPin b) (judged r (CheckPin b)))
+  unfolding judgedUnder
+  of-check b =
+      let x = decipherPin (smcKey r) b in
+      go (isOpen (r .transaction .phase)) (eqb (length b) 8) (eqb (r .tries) 0) (eqb (r .counters .decipherments) 65535) (eqb (x .code) 0) (isKept r x)
+    where
+      go : (o l t f p k : Bool)
+          → Change r (CheckPin b)
+          (by r (CheckPin b)
+          (firstStruck
+          (strikes (not o) PhaseWrong
+          ∷ strikes (not l) Input
+          ∷ strikes t NoTries
+          ∷ strikes f CounterFull
+          ∷ strikes (not p) PinFormat
+          ∷ strikes (not k) WrongPin
+          ∷ [])))
+      go false l t f p k = spared PhaseWrong refl refl
+      go true false t f p k = spared Input refl refl
+      go true true true f p k = spared NoTries refl refl
+      go true true false true p k = spared CounterFull refl refl
+      go true true false false false k = misread
+      go true true false false true false = mistaken
+      go true true false false true true = recognised
 
   of-withdraw : Change r Withdraw (by r Withdraw (judged r Withdraw))
   unfolding judgedUnder
@@ -208,6 +238,7 @@ module _ (r : Card) (ok : isSound r ≡ true) where
   of-call Close = of-close
   of-call Withdraw = of-withdraw
   of-call Counters = of-counters
+  of-call (CheckPin b) = of-check b
 
   pub change : (c : Call) → Change r c (step r c)
   change c = subst (Change r c) (sym (step-by c)) (of-call c)

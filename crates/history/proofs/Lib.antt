@@ -11,3 +11,5 @@ pub mod Exactly
 pub mod Onto
 pub mod Boxes
 pub mod Useless
+pub mod Pending
+pub mod Checked

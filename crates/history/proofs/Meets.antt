@@ -7,7 +7,7 @@ use lib.Dec.{eqb}
 use borrow.Author.Tests.{eqb-true, eqb-false}
 use Rattle.card.specs.declared.Card.{Card}
 use Rattle.card.specs.Record.{sound}
-use Rattle.card.specs.Calls.{Call, Open, IssuerAnswer, Script, Close, Withdraw, Counters, Verdict, refuse, accept, judged, Answer, only, gives, dueBy, due, dueUnder}
+use Rattle.card.specs.Calls.{Call, Open, IssuerAnswer, Script, Close, Withdraw, Counters, Verdict, refuse, accept, judged, Answer, only, gives, dueBy, due, dueUnder, CheckPin}
 use Rattle.history.specs.Run.{Loading, AnyBox, ours}
 use Rattle.history.specs.Demand2.{Accepts}
 use Rattle.history.specs.Ledger.{afterCalls}
@@ -36,6 +36,7 @@ gives-zero s (Script h m) = refl
 gives-zero s Close = refl
 gives-zero s Withdraw = refl
 gives-zero s Counters = refl
+gives-zero s (CheckPin b) = refl
 
 pub due-refused : (s : Card) (c : Call) → (due s c .number ≡ 0 → ⊥) → due s c ≡ only (due s c .number)
 unfolding dueUnder

@@ -1,15 +1,15 @@
 -- The examples marked P, and the cases of the table, computed. Assumes nothing.
 use mathlib.Core.Path.{_≡_, refl}
 use mathlib.Core.Bool.{true, false}
-use mathlib.Core.List.{List, []}
+use mathlib.Core.List.{List, [], _∷_}
 use Prim.Native.Nat.{ℕ}
-use lib.ListN.{length}
+use lib.ListN.{length, replicate}
 use borrow.Author.Tests.{eq-eqb, ne-eqb}
 use Rattle.octets.specs.Numbers.{leOctets, beOctets, be, le}
 use Rattle.octets.specs.Same.{same}
 use Rattle.octets.specs.Digits.{digits, pairs}
 use Rattle.shapes.specs.Length.{largest, largestShort, lengthField, fieldSays}
-use Rattle.shapes.specs.Shape.{lengthOf, lengthOfUnder, placeOfUnder, tagFits, codeHead, bodyUnder, bodySizeUnder, tagOf, dataOf, dataOfUnder, bodyOfUnder, codeInUnder, shape, shapeUnder}
+use Rattle.shapes.specs.Shape.{lengthOf, lengthOfUnder, placeOfUnder, tagFits, codeHead, bodyUnder, bodySizeUnder, sizeOfUnder, tagOf, dataOf, dataOfUnder, bodyOfUnder, codeInUnder, shape, shapeUnder}
 use Rattle.shapes.specs.Command.{headerOf, tagFor, lengthFor, isFor, listed, firstOf, commandOf}
 use Rattle.shapes.specs.Answers.{answerUnder, shapedUnder}
 use Rattle.cipher.specs.Answers.{blockFits}
@@ -21,15 +21,17 @@ use Rattle.keys.specs.Seeds.{sessionSeed}
 use Rattle.cryptogram.specs.Answers.{kindNumber}
 use Rattle.cryptogram.specs.Data.{width, widths, fields as dataFields, row, place, counterPlace, issuerPlace, kindPlace, kindBits, marked, cardData}
 use Rattle.transaction.specs.Transaction.{pendingFits, restFits}
-use Rattle.card.specs.Record.{sound}
+use Rattle.card.specs.Record.{sound, withTries}
 use Rattle.card.specs.Keys.{sessionKeyOf, smiKey, smcKey, counterKeyOf}
 use Rattle.shapes.specs.declared.command.Command.the-variants.{SetPin}
 use Rattle.shapes.specs.declared.command.Listed.the-variants.{One}
-use Rattle.message.specs.Code.{codeFits}
-use Rattle.card.specs.Calls.{IssuerAnswer, Script, plain, step, judgedScript, judgedUnder, arpcFor, cryptogramFor, countersFor, dueUnder, afterUnder}
+use Rattle.message.specs.Code.{given, codeFits}
+use Rattle.message.specs.Answers.{openNumber, openNumberUnder, wrapNumberUnder}
+use Rattle.octets.specs.Lengths.{keyFits}
+use Rattle.card.specs.Calls.{IssuerAnswer, Script, plain, step, judgedScript, judgedUnder, arpcFor, cryptogramFor, countersFor, dueUnder, afterUnder, CheckPin}
 use Rattle.card.specs.Personalise.{personalised}
 use Rattle.history.specs.Examples.{openAt, spoiltAt, Table}
-use Rattle.history.specs.Cases.{Cases}
+use Rattle.history.specs.Cases.{Cases, misreadAt}
 
 pub p-table : Table
 unfolding leOctets beOctets same digits pairs X sixteen Y pinFits nibbles fields pinBlock wellFormed pinOf blockFits writePin readBlock readPin width widths dataFields row place counterPlace issuerPlace kindPlace kindBits marked cardData largest largestShort lengthField fieldSays lengthOfUnder placeOfUnder tagFits codeHead bodyUnder bodySizeUnder tagOf dataOfUnder bodyOfUnder codeInUnder shapeUnder answerUnder shapedUnder pendingFits restFits sound judgedUnder dueUnder afterUnder
@@ -67,8 +69,33 @@ unread-9 : (h m : List ℕ) → length h ≡ 4 → shape m ≡ true → commandO
 unfolding same digits pinFits pendingFits restFits sound judgedUnder judgedScript dueUnder afterUnder
 unread-9 h m a b c d e = rw (eq-eqb _ _ a, b, c, d, ne-eqb _ _ e)
 
+check-spent : (b : List ℕ) → length b ≡ 8 → let r = withTries (misreadAt 65535) 0 in step r (CheckPin b) ≡ plain r 15
+unfolding same digits pinFits pendingFits restFits sound judgedUnder dueUnder afterUnder
+check-spent b l = rw (eq-eqb _ _ l)
+
+check-full : (b : List ℕ) → length b ≡ 8 → step (misreadAt 65535) (CheckPin b) ≡ plain (misreadAt 65535) 7
+unfolding same digits pinFits pendingFits restFits sound judgedUnder dueUnder afterUnder
+check-full b l = rw (eq-eqb _ _ l)
+
+check-misread : (b : List ℕ) → length b ≡ 8 → (decipherPin (smcKey (misreadAt 0)) b .code ≡ 0 → ⊥) → step (misreadAt 0) (CheckPin b) ≡ plain (misreadAt 1) 9
+unfolding same digits pinFits pendingFits restFits sound judgedUnder dueUnder afterUnder
+check-misread b l n = rw (eq-eqb _ _ l, ne-eqb _ _ n)
+
+check-mistaken : (b : List ℕ) → length b ≡ 8 → decipherPin (smcKey (misreadAt 0)) b ≡ found (1 ∷ 2 ∷ 3 ∷ 5 ∷ []) → step (misreadAt 0) (CheckPin b) ≡ plain (withTries (misreadAt 0) 2) 14
+unfolding same digits pinFits pendingFits restFits sound judgedUnder dueUnder afterUnder found
+check-mistaken b l e = rw (eq-eqb _ _ l, e)
+
+check-recognised : (b : List ℕ) → length b ≡ 8 → decipherPin (smcKey (withTries (misreadAt 0) 1)) b ≡ found (1 ∷ 2 ∷ 3 ∷ 4 ∷ [])
+    → step (withTries (misreadAt 0) 1) (CheckPin b) ≡ plain (misreadAt 0) 0
+unfolding same digits pinFits pendingFits restFits sound judgedUnder dueUnder afterUnder found
+check-recognised b l e = rw (eq-eqb _ _ l, e)
+
+opens-differing : (m : List ℕ) → shape m ≡ true → codeFits (replicate 32 0) (replicate 4 0) m ≡ false → openNumber (replicate 32 0) (replicate 4 0) m ≡ 8
+unfolding openNumberUnder given keyFits
+opens-differing m s c = rw (s, c)
+
 pub cases : Cases
-unfolding same leOctets beOctets be le lengthField fieldSays largest largestShort lengthOfUnder placeOfUnder tagFits codeHead bodyUnder bodySizeUnder tagOf dataOfUnder bodyOfUnder codeInUnder shapeUnder headerOf tagFor lengthFor isFor listed firstOf digits nibbles wellFormed pinOf pinFits readBlock found noPin countersOf counterBlock kindNumber sessionSeed sessionKeyOf counterKeyOf pendingFits restFits sound judgedScript judgedUnder arpcFor cryptogramFor countersFor dueUnder afterUnder personalised
+unfolding openNumberUnder wrapNumberUnder sizeOfUnder given keyFits same leOctets beOctets be le lengthField fieldSays largest largestShort lengthOfUnder placeOfUnder tagFits codeHead bodyUnder bodySizeUnder tagOf dataOfUnder bodyOfUnder codeInUnder shapeUnder headerOf tagFor lengthFor isFor listed firstOf digits nibbles wellFormed pinOf pinFits readBlock found noPin countersOf counterBlock kindNumber sessionSeed sessionKeyOf counterKeyOf pendingFits restFits sound judgedScript judgedUnder arpcFor cryptogramFor countersFor dueUnder afterUnder personalised
 cases =
     record {
       open-6-1 = refl;
@@ -80,6 +107,13 @@ cases =
       script-4-5 = refl;
       script-5-7 = refl;
       script-7-8 = refl;
+      check-6-1 = refl;
+      check-1-15 = refl;
+      check-15-7 = check-spent;
+      check-7-9 = check-full;
+      check-9 = check-misread;
+      check-14 = check-mistaken;
+      check-0 = check-recognised;
       close-6 = refl;
       counters-6 = refl;
       answer-aac = refl;
@@ -91,9 +125,11 @@ cases =
       thirteen-digits = refl;
       digit-of-ten = refl;
       unused-place = refl;
+      four-tries = refl;
       spoilt-idle = refl;
       loads = refl;
       loads-1-9 = refl;
+      loads-tries-9 = refl;
       loads-9 = refl;
       sets-pin = λ x. refl;
       sets-mark = λ x. refl;
@@ -102,4 +138,12 @@ cases =
       aac = λ d. refl;
       arpc = λ u. refl;
       counters = refl;
+      opens-1-4 = refl;
+      opens-4 = refl;
+      opens-8 = opens-differing;
+      wraps-1-3 = refl;
+      wraps-tag = refl;
+      wraps-256 = refl;
+      wraps-3 = refl;
+      wraps-0 = refl;
     }

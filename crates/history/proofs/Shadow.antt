@@ -1,5 +1,5 @@
 -- Demand 3: after any run our record is the one that the ledger says. Assumes nothing.
-use Prim.Native.Nat.{ℕ, _+_}
+use Prim.Native.Nat.{ℕ, _+_, _-_}
 use native.Mathlib.Nat.{add-zero}
 use native.Mathlib.Omega.{arith}
 use mathlib.Core.Path.{_≡_, refl, sym, ap, ap₂, subst, _∙_}
@@ -22,15 +22,15 @@ use Rattle.transaction.specs.declared.Transaction.{Transaction}
 use Rattle.transaction.specs.Transaction.{isOpen, none, spoilt, kindFor, phaseFor}
 use Rattle.card.specs.declared.Card.{Card}
 use Rattle.card.specs.declared.Reply.{Reply}
-use Rattle.card.specs.Record.{sound, Kept, kept, withTransaction, withKept, withCounters}
+use Rattle.card.specs.Record.{sound, Kept, kept, withTransaction, withKept, withCounters, withTries, fullTries, countersAt}
 use Rattle.card.specs.Keys.{smcKey}
-use Rattle.card.specs.Calls.{Call, Open, IssuerAnswer, Script, Close, Withdraw, Counters, read, grown, cryptogramFor, only, due, Order, newPin, newMark, orders, pend, pendAll, settled}
+use Rattle.card.specs.Calls.{Call, Open, IssuerAnswer, Script, Close, Withdraw, Counters, read, grown, cryptogramFor, only, due, Order, newPin, newMark, orders, pend, pendAll, settled, CheckPin, triesAfter}
 use Rattle.history.proofs.Own.{any, box, entry, run}
-use Rattle.history.specs.Run.{Loading, Entry, did, History, frame, was, isOpening as isOpened, isAnswer as isAnswered, isFailure as isFailed}
+use Rattle.history.specs.Run.{Loading, Entry, did, History, frame, was, isOpening as isOpened, isAnswer as isAnswered, isFailure as isFailed, isMisread, isMistaken}
 use Rattle.history.specs.Demand2.{Accepts}
-use Rattle.history.specs.Ledger.{howMany, since, ordersIn, Page, turned, page, madeGood, good, obeyed, allObeyed, keptBy, atcBy, countersBy, transactionBy, mustBe, ledger, loaded, afterCalls}
+use Rattle.history.specs.Ledger.{howMany, since, ordersIn, Page, turned, page, madeGood, good, obeyed, allObeyed, keptBy, atcBy, countersBy, transactionBy, mustBe, ledger, loaded, afterCalls, newPinIn, restores, triesBy}
 use Rattle.history.specs.Demand3.{Fresh}
-use Rattle.history.proofs.Change.{mild, Change, change, quiet, idle, early, counted, opened, answered, spoiled, differed, took, dropped, closed, withdrew}
+use Rattle.history.proofs.Change.{mild, Change, change, quiet, idle, early, counted, opened, answered, spoiled, differed, took, dropped, closed, withdrew, spared, misread, mistaken, recognised}
 use Rattle.answers.proofs.Laws.{not-zero}
 use Rattle.history.proofs.Keeps.{parts, pin-count, idle-none, Fit, Fits, orders-fit, keeps, freshOf, fresh-law, started}
 
@@ -91,6 +91,16 @@ mild-failed (Script h m) n e = absurd (false≢true e)
 mild-failed Close n e = refl
 mild-failed Withdraw n e = refl
 mild-failed Counters n e = refl
+mild-failed (CheckPin b) n e = absurd (false≢true e)
+
+mild-misread : (c : Call) (n : ℕ) → mild c ≡ true → isMisread (did c (only n)) ≡ false
+mild-misread (Open d) n e = refl
+mild-misread (IssuerAnswer x u) n e = refl
+mild-misread (Script h m) n e = refl
+mild-misread Close n e = refl
+mild-misread Withdraw n e = refl
+mild-misread Counters n e = refl
+mild-misread (CheckPin b) n e = absurd (false≢true e)
 
 -- each counter after one call
 atc-step : {r : Card} {c : Call} {a : Reply} → Change r c a → a .card .atc ≡ r .atc + cond (isOpened (entry c a)) 1 0
@@ -106,6 +116,10 @@ atc-step (took a) = sym (add-zero _)
 atc-step (dropped e p) = sym (add-zero _)
 atc-step (closed e p) = sym (add-zero _)
 atc-step withdrew = sym (add-zero _)
+atc-step (spared {b} q e n) = sym (add-zero _)
+atc-step misread = sym (add-zero _)
+atc-step mistaken = sym (add-zero _)
+atc-step recognised = sym (add-zero _)
 
 failures-step : {r : Card} {c : Call} {a : Reply} → Change r c a → a .card .counters .failures ≡ r .counters .failures + cond (isFailed (entry c a)) 1 0
 failures-step (quiet {c} q e) = rw (mild-failed c (number q) e) (sym (add-zero _))
@@ -120,6 +134,10 @@ failures-step (took a) = sym (add-zero _)
 failures-step (dropped e p) = sym (add-zero _)
 failures-step (closed e p) = sym (add-zero _)
 failures-step withdrew = sym (add-zero _)
+failures-step (spared {b} q e n) = sym (add-zero _)
+failures-step misread = sym (add-zero _)
+failures-step mistaken = sym (add-zero _)
+failures-step recognised = sym (add-zero _)
 
 session-step : {r : Card} {c : Call} {a : Reply} → Change r c a
     → a .card .counters .session ≡ cond (isAnswered (entry c a)) 0 (r .counters .session + cond (isOpened (entry c a)) 1 0)
@@ -135,6 +153,28 @@ session-step (took a) = sym (add-zero _)
 session-step (dropped e p) = sym (add-zero _)
 session-step (closed e p) = sym (add-zero _)
 session-step withdrew = sym (add-zero _)
+session-step (spared {b} q e n) = sym (add-zero _)
+session-step misread = sym (add-zero _)
+session-step mistaken = sym (add-zero _)
+session-step recognised = sym (add-zero _)
+
+misreads-step : {r : Card} {c : Call} {a : Reply} → Change r c a → a .card .counters .decipherments ≡ r .counters .decipherments + cond (isMisread (entry c a)) 1 0
+misreads-step (quiet {c} q e) = rw (mild-misread c (number q) e) (sym (add-zero _))
+misreads-step (idle e) = sym (add-zero _)
+misreads-step (early e) = sym (add-zero _)
+misreads-step counted = sym (add-zero _)
+misreads-step (opened e) = sym (add-zero _)
+misreads-step (answered e) = sym (add-zero _)
+misreads-step (spoiled q e n f) = sym (add-zero _)
+misreads-step (differed e f) = sym (add-zero _)
+misreads-step (took a) = sym (add-zero _)
+misreads-step (dropped e p) = sym (add-zero _)
+misreads-step (closed e p) = sym (add-zero _)
+misreads-step withdrew = sym (add-zero _)
+misreads-step (spared q e n) = rw e (sym (add-zero _))
+misreads-step misread = refl
+misreads-step mistaken = sym (add-zero _)
+misreads-step recognised = sym (add-zero _)
 
 quiet-turned : (r : Card) (p : Page) (c : Call) (q : Refusal) → mild c ≡ true → turned r (did c (only (number q))) p ≡ p
 quiet-turned r p (Open d) q e = rw (not-zero q)
@@ -143,6 +183,7 @@ quiet-turned r p (Script h m) q e = absurd (false≢true e)
 quiet-turned r p Close q e = absurd (false≢true e)
 quiet-turned r p Withdraw q e = absurd (false≢true e)
 quiet-turned r p Counters q e = refl
+quiet-turned r p (CheckPin b) q e = absurd (false≢true e)
 
 quiet-good : (p : Page) (c : Call) (q : Refusal) → mild c ≡ true → madeGood p (did c (only (number q))) ≡ []
 quiet-good p (Open d) q e = refl
@@ -151,16 +192,42 @@ quiet-good p (Script h m) q e = refl
 quiet-good p Close q e = absurd (false≢true e)
 quiet-good p Withdraw q e = refl
 quiet-good p Counters q e = refl
+quiet-good p (CheckPin b) q e = absurd (false≢true e)
+
+-- a call that restores nothing and takes no try
+sub-zero : (n : ℕ) → n ≡ n - 0
+sub-zero n = omega arith
+
+quiet-tries : (p : Page) (c : Call) (q : Refusal) (n : ℕ) → mild c ≡ true
+    → n ≡ cond (restores p (did c (only (number q)))) fullTries (n - cond (isMistaken (did c (only (number q)))) 1 0)
+quiet-tries p (Open d) q n e = sub-zero n
+quiet-tries p (IssuerAnswer x u) q n e = sub-zero n
+quiet-tries p (Script h m) q n e = sub-zero n
+quiet-tries p Close q n e = absurd (false≢true e)
+quiet-tries p Withdraw q n e = sub-zero n
+quiet-tries p Counters q n e = sub-zero n
+quiet-tries p (CheckPin b) q n e = absurd (false≢true e)
+
+-- a PIN is pending exactly where one was ordered
+pend-count : (os : List Order) (t : Transaction) → Fits os → eqb (pendAll os t .count) 0 ≡ cond (newPinIn os) false (eqb (t .count) 0)
+unfolding Fits Fit
+pend-count [] t f = refl
+pend-count (newPin p n ∷ os) t f =
+    pend-count os (pend (newPin p n) t) (f .1) ∙ ap (cond (newPinIn os) false) (pin-count n p (f .0)) ∙ both-false (newPinIn os)
+  where
+    both-false : (b : Bool) → cond b false false ≡ false
+    both-false true = refl
+    both-false false = refl
+pend-count (newMark x ∷ os) t f = pend-count os (pend (newMark x) t) (f .1)
 
 -- a record of its parts
-abbrev recordOf : Card → Kept → ℕ → ℕ → ℕ → Transaction → Card
-recordOf r k atc session failures t =
-    withTransaction
-    (withKept
-    (withCounters r atc (record { session = session; failures = failures; decipherments = r .counters .decipherments; authentications = r .counters .authentications })) k) t
+abbrev recordOf : Card → Kept → ℕ → ℕ → ℕ → ℕ → ℕ → Transaction → Card
+recordOf r k tries atc session failures misreads t =
+    withTransaction (withTries (withKept (withCounters r atc (countersAt session failures misreads (r .counters .authentications))) k) tries) t
 
-same-record : (r : Card) {k l : Kept} {a b m n f g : ℕ} {t u : Transaction} → k ≡ l → a ≡ b → m ≡ n → f ≡ g → t ≡ u → recordOf r k a m f t ≡ recordOf r l b n g u
-same-record r ek ea em ef et = rw (ek, ea, em, ef, et)
+same-record : (r : Card) {k l : Kept} {v w a b m n f g d e : ℕ} {t u : Transaction} → k ≡ l → v ≡ w → a ≡ b → m ≡ n → f ≡ g → d ≡ e → t ≡ u
+    → recordOf r k v a m f d t ≡ recordOf r l w b n g e u
+same-record r ek ev ea em ef ed et = rw (ek, ev, ea, em, ef, ed, et)
 
 -- what ties the record to the ledger
 record Tied (r : Card) (t : History) : Type 0 where
@@ -228,6 +295,14 @@ module _ (r : Card) (t : History) (tied : Tied r t) where
       ∙ sym (pend-append (p .ordered) (ordersIn r (p .cryptogram) h m) _)
       ∙ sym (same-page (p .ordered ++ ordersIn r (p .cryptogram) h m) (ap (λ (b : Bool). p .spoilt || b) (and-false (isOpen (p .phase))) ∙ or-false (p .spoilt)))
 
+  restored-so : triesAfter (s .transaction) (s .tries) ≡ cond (newPinIn (p .ordered)) fullTries (s .tries - 0)
+  unfolding mustBe
+  restored-so = rw (pend-count (p .ordered) _ (tied .fits)) (go (newPinIn (p .ordered)))
+    where
+      go : (b : Bool) → cond (cond b false true) (triesBy r t) fullTries ≡ cond b fullTries (triesBy r t - 0)
+      go true = refl
+      go false = sub-zero (triesBy r t)
+
   kept-step : {c : Call} {a : Reply} → Change s c a → kept (a .card) ≡ allObeyed (madeGood p (entry c a)) (kept s)
   kept-step (quiet {c} q e) = rw (quiet-good p c q e)
   kept-step (idle e) = rw (sym phase-so ∙ e)
@@ -241,6 +316,10 @@ module _ (r : Card) (t : History) (tied : Tied r t) where
   kept-step (dropped e z) = rw (sym phase-so ∙ e, sym spoilt-so ∙ z)
   kept-step (closed e z) = rw (sym phase-so ∙ e, sym spoilt-so ∙ z) laid-so
   kept-step withdrew = refl
+  kept-step (spared q e n) = refl
+  kept-step misread = refl
+  kept-step mistaken = refl
+  kept-step recognised = refl
 
   transaction-step : {c : Call} {a : Reply} → Change s c a → a .card .transaction ≡ transactionBy (page r (entry c a ∷ t))
   unfolding refused-page
@@ -257,6 +336,28 @@ module _ (r : Card) (t : History) (tied : Tied r t) where
   transaction-step (dropped e z) = refl
   transaction-step (closed e z) = refl
   transaction-step withdrew = refl
+  transaction-step (spared q e n) = transaction-so
+  transaction-step misread = transaction-so
+  transaction-step mistaken = transaction-so
+  transaction-step recognised = transaction-so
+
+  tries-step : {c : Call} {a : Reply} → Change s c a → a .card .tries ≡ cond (restores p (entry c a)) fullTries (s .tries - cond (isMistaken (entry c a)) 1 0)
+  tries-step (quiet {c} q e) = quiet-tries p c q (s .tries) e
+  tries-step (idle e) = rw (sym phase-so ∙ e) (sub-zero (s .tries))
+  tries-step (early e) = sub-zero (s .tries)
+  tries-step counted = sub-zero (s .tries)
+  tries-step (opened e) = sub-zero (s .tries)
+  tries-step (answered e) = sub-zero (s .tries)
+  tries-step (spoiled q e n f) = sub-zero (s .tries)
+  tries-step (differed e f) = sub-zero (s .tries)
+  tries-step (took a) = sub-zero (s .tries)
+  tries-step (dropped e z) = rw (sym phase-so ∙ e, sym spoilt-so ∙ z) (sub-zero (s .tries))
+  tries-step (closed e z) = rw (sym phase-so ∙ e, sym spoilt-so ∙ z) restored-so
+  tries-step withdrew = sub-zero (s .tries)
+  tries-step (spared q e n) = rw (not-zero q, n) (sub-zero (s .tries))
+  tries-step misread = sub-zero (s .tries)
+  tries-step mistaken = refl
+  tries-step recognised = refl
 
   fits-step : {c : Call} {a : Reply} → Change s c a → Fits (page r (entry c a ∷ t) .ordered)
   unfolding Fits
@@ -272,10 +373,14 @@ module _ (r : Card) (t : History) (tied : Tied r t) where
   fits-step (dropped e z) = tt
   fits-step (closed e z) = tt
   fits-step withdrew = tt
+  fits-step (spared q e n) = tied .fits
+  fits-step misread = tied .fits
+  fits-step mistaken = tied .fits
+  fits-step recognised = tied .fits
 
   -- the record after a call is made of its parts
   abbrev Made-of : Card → Type 0
-  Made-of x = x ≡ recordOf r (kept x) (x .atc) (x .counters .session) (x .counters .failures) (x .transaction)
+  Made-of x = x ≡ recordOf r (kept x) (x .tries) (x .atc) (x .counters .session) (x .counters .failures) (x .counters .decipherments) (x .transaction)
 
   made-step : {c : Call} {a : Reply} → Change s c a → Made-of (a .card)
   unfolding mustBe
@@ -291,6 +396,10 @@ module _ (r : Card) (t : History) (tied : Tied r t) where
   made-step (dropped e z) = refl
   made-step (closed e z) = refl
   made-step withdrew = refl
+  made-step (spared q e n) = refl
+  made-step misread = refl
+  made-step mistaken = refl
+  made-step recognised = refl
 
   after-step : {c : Call} {a : Reply} → Change s c a → a .card ≡ mustBe r (entry c a ∷ t)
   unfolding mustBe
@@ -300,7 +409,8 @@ module _ (r : Card) (t : History) (tied : Tied r t) where
       let n : a .card .atc ≡ atcBy r (e ∷ t) = let z = atc-step x in omega arith in
       let f : a .card .counters .failures ≡ countersBy r (e ∷ t) .failures = let z = failures-step x in omega arith in
       let m : a .card .counters .session ≡ countersBy r (e ∷ t) .session = session-step x in
-      made-step x ∙ same-record r k n m f (transaction-step x)
+      let d : a .card .counters .decipherments ≡ countersBy r (e ∷ t) .decipherments = let z = misreads-step x in omega arith in
+      made-step x ∙ same-record r k (tries-step x) n m f d (transaction-step x)
 
   tied-step : (c : Call) → (box s c .card ≡ mustBe r (did c (due s c) ∷ t)) × Tied r (did c (due s c) ∷ t)
   tied-step c =
@@ -320,7 +430,7 @@ module _ (l : Loading) (f : Fresh l) where
   unfolding mustBe
   at-start =
       ap (λ (a : Reply). mustBe (a .card) []) (started l f)
-      ∙ same-record (freshOf l) refl (add-zero _) refl (add-zero _) refl
+      ∙ same-record (freshOf l) refl refl (add-zero _) refl (add-zero _) (add-zero _) refl
       ∙ sym (ap (λ (a : Reply). a .card) (started l f))
 
   start-tied : Tied (loaded l) []

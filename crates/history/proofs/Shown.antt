@@ -11,7 +11,7 @@ use Rattle.card.specs.Calls.{Call}
 use Rattle.history.proofs.Own.{any, box, run}
 use Rattle.history.specs.Run.{frame}
 use Rattle.history.specs.Demand3.{anyOf, ShownIsKept}
-use Rattle.history.proofs.Change.{Change, change, quiet, idle, early, counted, opened, answered, spoiled, differed, took, dropped, closed, withdrew}
+use Rattle.history.proofs.Change.{Change, change, quiet, idle, early, counted, opened, answered, spoiled, differed, took, dropped, closed, withdrew, spared, misread, mistaken, recognised}
 use Rattle.history.proofs.Accepted.{unsound-law}
 use Rattle.history.proofs.Keeps.{neither}
 
@@ -20,12 +20,11 @@ pub record Lasting : Type 0 where
   pub ac : List ℕ
   pub smi : List ℕ
   pub smc : List ℕ
-  pub decipherments : ℕ
   pub authentications : ℕ
 
 abbrev pub lasting : Card → Lasting
 lasting r =
-    record { ac = r .ac; smi = r .smi; smc = r .smc; decipherments = r .counters .decipherments; authentications = r .counters .authentications }
+    record { ac = r .ac; smi = r .smi; smc = r .smc; authentications = r .counters .authentications }
 
 shown-by : {r : Card} {c : Call} {a : Reply} → eqb (frame c) 4 ≡ false → Change r c a → kept (a .card) ≡ kept r
 shown-by n (quiet q e) = refl
@@ -40,6 +39,10 @@ shown-by n (took a) = refl
 shown-by n (dropped e p) = refl
 shown-by n (closed e p) = absurd (true≢false n)
 shown-by n withdrew = refl
+shown-by n (spared q e z) = refl
+shown-by n misread = refl
+shown-by n mistaken = refl
+shown-by n recognised = refl
 
 lasts-by : {r : Card} {c : Call} {a : Reply} → Change r c a → lasting (a .card) ≡ lasting r
 lasts-by (quiet q e) = refl
@@ -54,6 +57,10 @@ lasts-by (took a) = refl
 lasts-by (dropped e p) = refl
 lasts-by (closed e p) = refl
 lasts-by withdrew = refl
+lasts-by (spared q e z) = refl
+lasts-by misread = refl
+lasts-by mistaken = refl
+lasts-by recognised = refl
 
 shown-step : (r : Card) (c : Call) → eqb (frame c) 4 ≡ false → kept (box r c .card) ≡ kept r
 shown-step r c n = go (sound r) refl

@@ -1,5 +1,5 @@
 -- Demand 3, striking out: a withdrawal forgets what its transaction's scripts made pending. Assumes nothing.
-use Prim.Native.Nat.{ℕ, _+_}
+use Prim.Native.Nat.{ℕ, _+_, _-_}
 use mathlib.Core.Path.{_≡_, refl, sym, ap, ap₂, subst, _∙_}
 use mathlib.Core.List.{List, [], _∷_, _++_}
 use mathlib.Core.Bool.{Bool, true, false, not, _&&_, cond, and-eq-true-iff, true≢false, false≢true}
@@ -18,9 +18,9 @@ use Rattle.transaction.specs.declared.Transaction.{Transaction}
 use Rattle.transaction.specs.Transaction.{isOpen, isUnmarked, none, pendingFits, restFits}
 use Rattle.card.specs.declared.Card.{Card}
 use Rattle.card.specs.declared.Reply.{Reply}
-use Rattle.card.specs.Record.{sound, withTransaction}
+use Rattle.card.specs.Record.{sound, withTransaction, withCounters, withTries, oneMisread}
 use Rattle.card.specs.Keys.{sessionKeyOf, smiKey, smcKey, counterKeyOf}
-use Rattle.card.specs.Calls.{Call, Open, IssuerAnswer, Script, Close, Withdraw, Counters, Verdict, refuse, accept, read, judgedScript, judged, judgedUnder, arpcFor, cryptogramFor, countersFor}
+use Rattle.card.specs.Calls.{Call, Open, IssuerAnswer, Script, Close, Withdraw, Counters, Verdict, refuse, accept, read, judgedScript, judged, judgedUnder, arpcFor, cryptogramFor, countersFor, CheckPin, refusedCheck}
 use Rattle.card.specs.Calls.{only, Order, newPin, newMark, orders, pend, pendAll, refused, reply, plain}
 use Rattle.history.proofs.Own.{any, box, entry, history, run}
 use Rattle.history.specs.Run.{Loading, Entry, did, History, callsOf, frame, isCommand}
@@ -46,7 +46,7 @@ bare-rest t e = go (isOpen (t .phase)) e
 
 bare-sound : (r : Card) → sound r ≡ true → sound (bare r) ≡ true
 unfolding pendingFits same
-bare-sound r s = whole (bare r) (record { pinned = parts r s .pinned; pended = refl; rested = bare-rest (r .transaction) (parts r s .rested) })
+bare-sound r s = whole (bare r) (record { pinned = parts r s .pinned; tried = parts r s .tried; pended = refl; rested = bare-rest (r .transaction) (parts r s .rested) })
 
 bare-pend : (os : List Order) (t : Transaction) → bareOf (pendAll os t) ≡ bareOf t
 bare-pend [] t = refl
@@ -66,6 +66,17 @@ seen-refused r h m q = go (isOpen (r .transaction .phase)) refl
     go : (o : Bool) → isOpen (r .transaction .phase) ≡ o → bare (refused r (Script h m) q) ≡ bare (refused (bare r) (Script h m) q)
     go true e = rw e
     go false e = rw e
+
+abbrev checked : Card → Bool → Bool → Card
+checked s x y = cond x (withCounters s (s .atc) (oneMisread (s .counters))) (cond y (withTries s (s .tries - 1)) s)
+
+seen-check : (r : Card) (q : Refusal) → bare (refusedCheck r q) ≡ bare (refusedCheck (bare r) q)
+seen-check r q = go (eqb (number q) 9) (eqb (number q) 14)
+  where
+    go : (x y : Bool) → bare (checked r x y) ≡ bare (checked (bare r) x y)
+    go true y = refl
+    go false true = refl
+    go false false = refl
 
 seen-taken : (r : Card) (os : List Order) → bare (withTransaction r (pendAll os (r .transaction))) ≡ bare (withTransaction (bare r) (pendAll os (bareOf (r .transaction))))
 seen-taken r os = ap (withTransaction r) (bare-pend os (r .transaction) ∙ sym (bare-pend os (bareOf (r .transaction))))
@@ -87,6 +98,8 @@ module _ (c : Call) (n4 : eqb (frame c) 4 ≡ false) (n5 : eqb (frame c) 5 ≡ f
       go Withdraw w a b = absurd (true≢false b)
       go Counters (refuse q) a b = refl
       go Counters accept a b = refl
+      go (CheckPin s) (refuse q) a b = ap (λ (y : Card). (did (CheckPin s) (only (number q)), y)) (seen-check r q)
+      go (CheckPin s) accept a b = refl
 
   same-verdict : (r : Card) → judged r c ≡ judged (bare r) c
   unfolding judgedUnder judgedScript arpcFor sessionKeyOf smiKey smcKey
@@ -99,6 +112,7 @@ module _ (c : Call) (n4 : eqb (frame c) 4 ≡ false) (n5 : eqb (frame c) 5 ≡ f
       go Close a = absurd (true≢false a)
       go Withdraw a = refl
       go Counters a = refl
+      go (CheckPin s) a = refl
 
   seen-step : (r : Card) → sound r ≡ true → seen c (box r c) ≡ seen c (box (bare r) c)
   seen-step r s =
@@ -117,6 +131,7 @@ harmless-by r (IssuerAnswer x u) v e = absurd (false≢true e)
 harmless-by r Close v e = absurd (false≢true e)
 harmless-by r Withdraw v e = absurd (false≢true e)
 harmless-by r Counters v e = absurd (false≢true e)
+harmless-by r (CheckPin b) v e = absurd (false≢true e)
 harmless-by r (Script h m) accept e = ap (withTransaction r) (bare-pend (orders (read r h m .command) (read r h m .block)) (r .transaction))
 harmless-by r (Script h m) (refuse q) e = go (isOpen (r .transaction .phase)) refl (not-true _ e)
   where

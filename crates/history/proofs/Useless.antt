@@ -36,7 +36,7 @@ use Rattle.card.specs.declared.Card.{Card}
 use Rattle.card.specs.declared.Reply.{Reply}
 use Rattle.card.specs.Record.{sound, kept, withTransaction}
 use Rattle.card.specs.Keys.{sessionKeyOf, smiKey}
-use Rattle.card.specs.Calls.{Call, Open, Script, Close, Counters, Verdict, accept, read, judgedUnder, Answer, grown, cryptogramFor, gives, newMark, orders, pend, pendAll, settled, accepted, due, reply, plain, step}
+use Rattle.card.specs.Calls.{Call, Open, Script, Close, Withdraw, Counters, Verdict, accept, read, judgedUnder, Answer, grown, cryptogramFor, gives, newMark, orders, pend, pendAll, settled, accepted, due, reply, plain, step}
 use Rattle.card.specs.Personalise.{personalised}
 use Rattle.history.specs.Run as runs
 use Rattle.history.specs.Run.{Loading, Box, answerOf, boxed}
@@ -44,7 +44,7 @@ use Rattle.history.specs.Demand2.{Reached, Accepts}
 use Rattle.history.specs.Ledger.{loaded, afterCalls}
 use Rattle.history.specs.Demand3.{Fresh}
 use Rattle.history.specs.Demands.{Demand2, Demand3}
-use Rattle.history.proofs.Boxes.{refusesEverything, zeroed, constantCryptogram, doesNothing, hasPending, firstOnly, madeUpCounters, silent, stored, storedAsAac, wiped, wipes}
+use Rattle.history.proofs.Boxes.{refusesEverything, zeroed, constantCryptogram, doesNothing, hasPending, firstOnly, madeUpCounters, silent, stored, storedAsAac, wiped, wipes, givesBack}
 use Rattle.history.proofs.Own.{run}
 use Rattle.history.proofs.Change.{same-code, by, step-by, change, Change, quiet, counted}
 use Rattle.history.proofs.Accepted.{passed}
@@ -53,7 +53,7 @@ use Rattle.history.proofs.Shadow.{our-record}
 use Rattle.history.proofs.Onto.{cryptogram-onto}
 
 -- a fresh record, of PIN 1234
-abbrev first-loading : Loading
+abbrev pub first-loading : Loading
 first-loading =
     record {
       ac = replicate 32 0;
@@ -63,13 +63,14 @@ first-loading =
       counters = replicate 8 0;
       mark = 0;
       block = 0x24 ∷ 0x12 ∷ 0x34 ∷ 0xff ∷ 0xff ∷ 0xff ∷ 0xff ∷ 0xff ∷ [];
+      tries = 2;
     }
 
 is-fresh : Fresh first-loading
 unfolding personalised readBlock wellFormed nibbles pinFits digits found noPin
 is-fresh = refl
 
-abbrev first-card : Card
+abbrev pub first-card : Card
 first-card = freshOf first-loading
 
 starts : loaded first-loading ≡ first-card
@@ -79,7 +80,7 @@ first-sound : sound first-card ≡ true
 first-sound = sym (ap sound starts) ∙ fresh-law first-loading is-fresh
 
 -- the SMI key always has its length
-length-smi : (r : Card) → length (smiKey r) ≡ 32
+pub length-smi : (r : Card) → length (smiKey r) ≡ 32
 unfolding smiKey derived hmac
 length-smi r = length-hash256 _
 
@@ -139,6 +140,10 @@ module _ (r : Card) (s : sound r ≡ true) (o : isOpen (r .transaction .phase) �
       ∙ ap (by r (Script (headerOf c) (order r c))) (passed r (headerOf c) (order r c) accepts)
       ∙ ap (λ (l : Listed). plain (withTransaction r (pendAll (orders l (read r (headerOf c) (order r c) .block)) (r .transaction))) 0) (accepts .instruction)
 
+withdraws : (r : Card) → sound r ≡ true → step r Withdraw ≡ plain (withTransaction r none) 0
+unfolding judgedUnder
+withdraws r s = step-by r s Withdraw
+
 -- a close of an open transaction that is not spoilt
 closes-well : (r : Card) → sound r ≡ true → isOpen (r .transaction .phase) ≡ true → r .transaction .spoilt ≡ false → step r Close ≡ plain (accepted r Close) 0
 unfolding judgedUnder
@@ -149,19 +154,19 @@ opened-with : (d : List ℕ) → length d ≡ 65 → step first-card (Open d) �
 unfolding judgedUnder countersOf be le
 opened-with d l = step-by first-card first-sound (Open d) ∙ rw (eq-eqb _ _ l)
 
-abbrev opened-card : Card
+abbrev pub opened-card : Card
 opened-card = step first-card (Open (replicate 65 0)) .card
 
-as-opened : step first-card (Open (replicate 65 0)) ≡ reply (accepted first-card (Open (replicate 65 0))) (gives first-card (Open (replicate 65 0)))
+pub as-opened : step first-card (Open (replicate 65 0)) ≡ reply (accepted first-card (Open (replicate 65 0))) (gives first-card (Open (replicate 65 0)))
 as-opened = opened-with (replicate 65 0) refl
 
-opened-sound : sound opened-card ≡ true
+pub opened-sound : sound opened-card ≡ true
 opened-sound = keeps first-sound (change first-card first-sound (Open (replicate 65 0)))
 
-opened-open : isOpen (opened-card .transaction .phase) ≡ true
+pub opened-open : isOpen (opened-card .transaction .phase) ≡ true
 opened-open = ap (λ (a : Reply). isOpen (a .card .transaction .phase)) as-opened
 
-opened-free : opened-card .counters .failures ≡ 65535 → ⊥
+pub opened-free : opened-card .counters .failures ≡ 65535 → ⊥
 unfolding countersOf be le
 opened-free e = eqb-false 0 65535 refl (sym (ap (λ (a : Reply). a .card .counters .failures) as-opened) ∙ e)
 
@@ -199,7 +204,7 @@ ledger-says cs = ap (λ (r : Card). run r cs) (sym starts) ∙ our-record first-
 
 -- so a box that meets demand 2 accepts what ours must accept and gives what ours gives, and one that meets demand 3 shows what ours shows
 module _ (b : Box) (cs : List Call) where
-  abbrev its : Card
+  abbrev pub its : Card
   its = runs.run (boxed b) first-card cs
 
   from-start : {A : Type 0} (f : Card → A) → f (runs.run (boxed b) (boxed b .start first-loading) cs) ≡ f its
@@ -215,10 +220,10 @@ module _ (b : Box) (cs : List Call) where
       ∙ law .given first-loading cs c is-fresh (from-start (λ (r : Card). b r c .code) ∙ z)
       ∙ ap (λ (r : Card). gives r c) (sym (ledger-says cs))
 
-  must-show : Demand3 (boxed b) → its ≡ run first-card cs
+  pub must-show : Demand3 (boxed b) → its ≡ run first-card cs
   must-show law = sym (from-start (λ (r : Card). r)) ∙ law .the-record first-loading cs is-fresh ∙ sym (ledger-says cs)
 
-abbrev some-data : List ℕ
+abbrev pub some-data : List ℕ
 some-data = replicate 65 0
 
 -- refuses everything: demand 2 is false of it, for a command that must be accepted is not
@@ -355,3 +360,9 @@ forgets-cryptogram law =
     (ap (λ (c : Card). c .transaction .cryptogram) (e ∙ kept-by (change r s Counters))
     ∙ ap (λ (a : Reply). a .card .transaction .cryptogram) (opened-with d (telling .data-length))
     ∙ tells)
+
+-- gives the try back on Withdraw: demand 3 is false of it
+pub gives-back : Demand3 (boxed givesBack) → ⊥
+gives-back law =
+    let e : givesBack first-card Withdraw .card ≡ step first-card Withdraw .card = must-show givesBack (Withdraw ∷ []) law in
+    eqb-false 3 2 refl (ap (λ (r : Card). r .tries) e ∙ ap (λ (a : Reply). a .card .tries) (withdraws first-card first-sound))

@@ -24,6 +24,7 @@ cardAt atc session failures =
     cardOf
     (record { ac = replicate 32 0; smi = replicate 32 0; smc = replicate 32 0 })
     (record { pin = 1 ∷ 2 ∷ 3 ∷ 4 ∷ replicate 8 0; count = 4; mark = false })
+    3
     atc
     (countersAt session failures 0 0)
     none

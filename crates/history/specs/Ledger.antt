@@ -1,6 +1,6 @@
 -- The ledger of demand 3, and the record as it must be. The ledger is written from what was personalised and the calls alone: a line for each call,
 -- the latest first, with the answer that is due. No answer of any box is read, and no record that a call hands back. Assumes nothing.
-use Prim.Native.Nat.{ℕ, _+_}
+use Prim.Native.Nat.{ℕ, _+_, _-_}
 use mathlib.Core.Bool.{Bool, true, false, not, _&&_, _||_, cond}
 use mathlib.Core.List.{List, [], _∷_, _++_}
 use lib.Dec.{eqb}
@@ -16,9 +16,9 @@ use Rattle.transaction.specs.declared.PendingMark.the-variants.{Nothing}
 use Rattle.transaction.specs.declared.Transaction.{Transaction}
 use Rattle.transaction.specs.Transaction.{isOpen}
 use Rattle.card.specs.declared.Card.{Card}
-use Rattle.card.specs.Record.{Kept, kept, withPin, withMark, withTransaction, withKept, withCounters}
-use Rattle.card.specs.Calls.{Call, Open, IssuerAnswer, Script, Close, Withdraw, Counters, Answer, due, Order, newPin, newMark, orders, pendAll}
-use Rattle.history.specs.Run.{Loading, personalisedWith, Entry, did, History, frame, isOpening, isAnswer, isFailure}
+use Rattle.card.specs.Record.{Kept, kept, withPin, withMark, withTransaction, withKept, withCounters, fullTries, withTries}
+use Rattle.card.specs.Calls.{Call, Open, IssuerAnswer, Script, Close, Withdraw, Counters, Answer, due, Order, newPin, newMark, orders, pendAll, CheckPin}
+use Rattle.history.specs.Run.{Loading, personalisedWith, Entry, did, History, frame, isOpening, isAnswer, isFailure, isMisread, isMistaken, isRecognised}
 
 -- how many lines pass a test; and how many since the last that passes another, added to a start if there was none
 abbrev pub howMany : (Entry → Bool) → History → ℕ
@@ -63,6 +63,7 @@ turned r (did (Script h m) a) p = scripted r h m (a .number) p
 turned r (did Close a) p = noPage
 turned r (did Withdraw a) p = noPage
 turned r (did Counters a) p = p
+turned r (did (CheckPin b) a) p = p
 
 abbrev pub page : Card → History → Page
 page r [] = noPage
@@ -95,15 +96,29 @@ abbrev pub atcBy : Card → History → ℕ
 atcBy r t = r .atc + howMany isOpening t
 
 -- "the script failure counter by the Script calls refused with 8, and the session counter holds the accepted openings since the last accepted
--- issuer answer, added to its start if there was none."
+-- issuer answer, added to its start if there was none." "A badly formed block adds 1 to the PIN decipherment counter." (Wish 4)
 abbrev pub countersBy : Card → History → CounterStruct
 countersBy r t =
     record {
       session = since isAnswer isOpening (r .counters .session) t;
       failures = r .counters .failures + howMany isFailure t;
-      decipherments = r .counters .decipherments;
+      decipherments = r .counters .decipherments + howMany isMisread t;
       authentications = r .counters .authentications;
     }
+
+-- "A well-formed wrong PIN takes one try away; the right one, compared with the kept PIN, restores three." "A PIN change kept at Close restores three."
+-- (Wish 4): three, or the start where nothing restored them, less the checks refused with 14 since the last restoring
+abbrev pub newPinIn : List Order → Bool
+newPinIn [] = false
+newPinIn (newPin p n ∷ os) = true
+newPinIn (newMark x ∷ os) = newPinIn os
+
+abbrev pub restores : Page → Entry → Bool
+restores p e = isRecognised e || newPinIn (madeGood p e)
+
+abbrev pub triesBy : Card → History → ℕ
+triesBy r [] = r .tries
+triesBy r (e ∷ t) = cond (restores (page r t) e) fullTries (triesBy r t - cond (isMistaken e) 1 0)
 
 -- while a transaction is open, its kind, cryptogram and spoilt mark, and pending what its commands ordered, in order
 abbrev pub transactionBy : Page → Transaction
@@ -112,7 +127,8 @@ transactionBy p =
 
 -- the record as it must be; the keys stay
 unfoldable pub mustBe : Card → History → Card
-mustBe r t = withTransaction (withKept (withCounters r (atcBy r t) (countersBy r t)) (keptBy r t)) (transactionBy (page r t))
+mustBe r t =
+    withTransaction (withTries (withKept (withCounters r (atcBy r t) (countersBy r t)) (keptBy r t)) (triesBy r t)) (transactionBy (page r t))
 
 -- the ledger of some calls: each is answered what is due of the record as it must be
 unfoldable pub ledger : Card → History → List Call → History

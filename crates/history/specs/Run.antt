@@ -3,12 +3,14 @@ use Prim.Native.Nat.{ℕ}
 use mathlib.Core.Bool.{Bool, _&&_}
 use mathlib.Core.List.{List, [], _∷_}
 use lib.Dec.{eqb}
+use Rattle.answers.specs.declared.Refusal.the-variants.{CodeDiffers, PinFormat, WrongPin}
+use Rattle.answers.specs.Refusals.{number}
 use Rattle.card.specs.declared.Card.{Card}
 use Rattle.card.specs.declared.Reply.{Reply}
-use Rattle.card.specs.Calls.{Call, Open, IssuerAnswer, Script, Close, Withdraw, Counters, Answer, step}
+use Rattle.card.specs.Calls.{Call, Open, IssuerAnswer, Script, Close, Withdraw, Counters, CheckPin, Answer, step}
 use Rattle.card.specs.Personalise.{personalised}
 
--- what a card is personalised with (01, frame 00): keys AC, SMI, SMC, counter, counter block, mark, clear PIN block; as lists and numbers of any size,
+-- what a card is personalised with (01, frame 00): keys AC, SMI, SMC, counter, counter block, mark, clear PIN block, tries left; as lists and numbers of any size,
 -- so that the demands speak of what a program can give and more
 pub record Loading : Type 0 where
   pub ac : List ℕ
@@ -18,6 +20,7 @@ pub record Loading : Type 0 where
   pub counters : List ℕ
   pub mark : ℕ
   pub block : List ℕ
+  pub tries : ℕ
 
 -- a box: a state of its own; what it answers to personalisation, and the state after it; what it answers to a call, and the state after it; and
 -- the record that it shows
@@ -57,9 +60,10 @@ frame (Script h m) = 3
 frame Close = 4
 frame Withdraw = 5
 frame Counters = 6
+frame (CheckPin b) = 7
 
 abbrev pub was : ℕ → ℕ → Entry → Bool
-was f number (did c a) = eqb (frame c) f && eqb (a .number) number
+was f n (did c a) = eqb (frame c) f && eqb (a .number) n
 
 -- an accepted opening, an accepted issuer answer, an accepted script, a script refused with 8
 abbrev pub isOpening : Entry → Bool
@@ -72,7 +76,17 @@ abbrev pub isCommand : Entry → Bool
 isCommand e = was 3 0 e
 
 abbrev pub isFailure : Entry → Bool
-isFailure e = was 3 8 e
+isFailure e = was 3 (number CodeDiffers) e
+
+-- a PIN check of a badly formed block, of a wrong PIN, and of the right one
+abbrev pub isMisread : Entry → Bool
+isMisread e = was 7 (number PinFormat) e
+
+abbrev pub isMistaken : Entry → Bool
+isMistaken e = was 7 (number WrongPin) e
+
+abbrev pub isRecognised : Entry → Bool
+isRecognised e = was 7 0 e
 
 -- a box whose state is the record, which each call hands back: ours is the one of step, which every method of the card is proved to be
 abbrev pub Box : Type 0
@@ -82,7 +96,7 @@ abbrev pub answerOf : Reply → Answer
 answerOf a = record { number = a .code; kind = a .kind; bytes = a .bytes }
 
 abbrev pub personalisedWith : Loading → Reply
-personalisedWith l = personalised (l .ac) (l .smi) (l .smc) (l .atc) (l .counters) (l .mark) (l .block)
+personalisedWith l = personalised (l .ac) (l .smi) (l .smc) (l .atc) (l .counters) (l .mark) (l .block) (l .tries)
 
 abbrev pub boxed : Box → AnyBox
 boxed b =

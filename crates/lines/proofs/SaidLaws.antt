@@ -88,6 +88,6 @@ module _ (f : ℕ) (p : Reply) (h : Held) (eh : h ≡ holding (p .card)) (x : Sa
   replied-plain n i j e = e ∙ rw (eh, eq-eqb _ _ n, ne-eqb _ _ i, ne-eqb _ _ j)
 
 -- no record: what a refused personalisation gives
-pub none-made : (z y : List ℕ) (p : Reply) → p ≡ personalised z z z 0 y 2 y → _≡_ {A = Held} (record { exists = false; card = p .card }) nothing
+pub none-made : (z y : List ℕ) (p : Reply) → p ≡ personalised z z z 0 y 2 y 0 → _≡_ {A = Held} (record { exists = false; card = p .card }) nothing
 unfolding personalised
 none-made z y p e = ap (λ (q : Reply). record { exists = false; card = q .card }) e

@@ -15,7 +15,7 @@ longest = present .longest
 abbrev pub keptSigns : ℕ
 keptSigns = longest + 1
 
--- "a first byte above 06 .. is 13"
+-- "a first byte above 06 .. is 13", now 07 (Wish 4)
 abbrev pub lastFrame : ℕ
 lastFrame = present .lastFrame
 
@@ -51,7 +51,7 @@ octetsOf (a ∷ b ∷ l) = octetOf a b ∷ octetsOf l
 unfoldable pub hexadecimal : List ℕ → Bool
 hexadecimal l = not (eqb (length l) 0) && (eqb (length l % 2) 0 && legible l)
 
--- "An empty line, an odd count, a foreign sign, a first byte above 06 or more than 280 digits is 13.", now 538
+-- "An empty line, an odd count, a foreign sign, a first byte above 06 or more than 280 digits is 13.", now 07 and 538
 unfoldable pub readableUnder : Rules → List ℕ → Bool
 readableUnder k l = leb (length l) (k .longest) && (hexadecimal l && leb (getD (octetsOf l) 0 0) (k .lastFrame))
 

@@ -33,7 +33,7 @@ pub fn one(card: Card) -> Held
 pub fn none() -> Held
     ensures { λ r. ⌜ r ≡ nothing ⌝ }
 {
-    let refused = Card::personalise([0; 32], [0; 32], [0; 32], 0, [0; 8], 2, [0; 8]);
+    let refused = Card::personalise([0; 32], [0; 32], [0; 32], 0, [0; 8], 2, [0; 8], 0);
     let card = refused.card;
     Held {
         exists: false,

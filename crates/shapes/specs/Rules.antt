@@ -1,13 +1,14 @@
 -- What the wishes move. A definition that a wish moves takes the rules, and what was before the wish is that definition under the rules of then (the
 -- crate before). Assumes nothing.
 use Prim.Native.Nat.{ℕ}
+use mathlib.Core.Bool.{Bool, true}
 use mathlib.Core.List.{List}
 use Rattle.shapes.specs.declared.command.Command.{Command}
 use Rattle.shapes.specs.Length.{largest, lengthField, fieldSays}
 use Rattle.shapes.specs.Command.{listed}
 
 -- the largest L of a message, the field that says a length, and what a field of two bytes or its first one says; the script commands; the digits of the
--- longest line, and the last first byte of a frame
+-- longest line, the last first byte of a frame, and whether a frame 00 may end in the tries
 pub record Rules : Type 0 where
   pub largest : ℕ
   pub field : ℕ → List ℕ
@@ -15,7 +16,8 @@ pub record Rules : Type 0 where
   pub commands : List Command
   pub longest : ℕ
   pub lastFrame : ℕ
+  pub triesGiven : Bool
 
--- today: "the longest trace line 538 digits" (Wish 1); "a first byte above 06 .. is 13"
+-- today: "the longest trace line 538 digits" (Wish 1); "the check for unreadable lines now starts above 07" (Wish 4)
 abbrev pub present : Rules
-present = record { largest = largest; field = lengthField; says = fieldSays; commands = listed; longest = 538; lastFrame = 6 }
+present = record { largest = largest; field = lengthField; says = fieldSays; commands = listed; longest = 538; lastFrame = 7; triesGiven = true }

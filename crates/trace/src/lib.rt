@@ -183,8 +183,11 @@ fn uses_ac(f: u8) -> bool {
     f == b'6'
 }
 
-// Whether a line is a script with instruction 2x, which uses SMC.
+// Whether a line uses SMC: a PIN check does, and a script with instruction 2x.
 fn uses_smc(line: &[u8]) -> bool {
+    if sign(line, 1) == b'7' {
+        return true;
+    }
     if sign(line, 1) != b'3' {
         return false;
     }

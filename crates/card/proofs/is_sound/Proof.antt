@@ -1,4 +1,4 @@
-use Rattle.card.proofs.SoundLaws.{sound-pin, sound-pending, sound-rest}
+use Rattle.card.proofs.SoundLaws.{sound-pin, sound-tries, sound-pending, sound-rest}
 use borrow.Author.Needs.{needs}
 use Rattle.card.proofs.is_sound.Statement.{statement}
 use Rattle.card.proofs.is_sound.Tie as tie
@@ -7,10 +7,13 @@ returns : tie.Need-returns
 returns c = search sound-pin
 
 returns-2 : tie.Need-returns-2
-returns-2 c = search sound-pending
+returns-2 c = search sound-tries
 
 returns-3 : tie.Need-returns-3
-returns-3 c = search sound-rest
+returns-3 c = search sound-pending
+
+returns-4 : tie.Need-returns-4
+returns-4 c = search sound-rest
 
 pub is-sound-spec : {M : Type 1} → statement M
 is-sound-spec =
@@ -20,7 +23,8 @@ is-sound-spec =
     (λ c. search needs)
     (λ c κs. search needs)
     returns
-    (λ c κs. search needs)
     returns-2
     (λ c κs. search needs)
-    returns-3)
+    returns-3
+    (λ c κs. search needs)
+    returns-4)

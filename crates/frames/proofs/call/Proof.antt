@@ -1,4 +1,4 @@
-use Rattle.frames.proofs.FrameLaws.{called-1, called-2, called-3, called-4, called-5, called-6}
+use Rattle.frames.proofs.FrameLaws.{called-1, called-2, called-3, called-4, called-5, called-6, called-7}
 use borrow.Author.Needs.{needs}
 use Rattle.frames.proofs.call.Statement.{statement}
 use Rattle.frames.proofs.call.Tie as tie
@@ -19,7 +19,10 @@ returns-5 : tie.Need-returns-5
 returns-5 c = search called-5
 
 returns-6 : tie.Need-returns-6
-returns-6 c = λ fits. called-6 _ _ _ _ (c .before .match .rest) (c .counter-block .ensures (fits .0))
+returns-6 c = λ fits. let e = c .counter-block .ensures (fits .0) in search called-6
+
+returns-7 : tie.Need-returns-7
+returns-7 c = λ fits. called-7 _ _ _ _ (c .before .match .rest) (c .check-pin-kept .ensures (fits .2))
 
 pub call-spec : {M : Type 1} → statement M
 call-spec =
@@ -31,9 +34,11 @@ call-spec =
     (λ c κs. search needs)
     (λ c κs. search needs)
     (λ c κs. search needs)
+    (λ c κs. search needs)
     returns
     returns-2
     returns-3
     returns-4
     returns-5
-    returns-6)
+    returns-6
+    returns-7)

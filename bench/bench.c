@@ -91,6 +91,21 @@ static void table_row(const struct row *row, int count) {
     fflush(stdout);
 }
 
+static void pair_row(const struct row *row, int count) {
+    sample(row, count);
+    double fed = median(BOX, count), other = median(GCRYPT, count);
+    printf("| %s | %s | %.1f | %.1f | %.3f |\n", row->name, row->counted, fed, other, fed / other);
+    fflush(stdout);
+}
+
+static void must_agree(const struct row *row, size_t n) {
+    for (size_t i = 0; i < n; i++)
+        if (!agree(&row[i])) {
+            fprintf(stderr, "bench: FAILED: %s: the answers differ\n", row[i].name);
+            exit(1);
+        }
+}
+
 int main(int argc, char **argv) {
     int count = argc > 1 ? atoi(argv[1]) : 1001;
     if (count < 1 || count > MOST_SAMPLES) {
@@ -98,14 +113,13 @@ int main(int argc, char **argv) {
         return 2;
     }
     rows_start();
-    for (size_t i = 0; i < row_count; i++)
-        if (!agree(&rows[i])) {
-            fprintf(stderr, "bench: FAILED: %s: the answers differ\n", rows[i].name);
-            return 1;
-        }
+    must_agree(rows, row_count);
+    must_agree(pairs, pair_count);
     printf("| Operation | Counted | box, a second | box, ns | libgcrypt, ns | nettle, ns | box to the fastest peer, in time |\n");
     printf("|---|---|--:|--:|--:|--:|--:|\n");
     for (size_t i = 0; i < row_count; i++) table_row(&rows[i], count);
+    printf("\n| In parts, by the library for C | Counted | in parts, ns | beside it, ns | ratio |\n|---|---|--:|--:|--:|\n");
+    for (size_t i = 0; i < pair_count; i++) pair_row(&pairs[i], count);
     printf("\nEach cell is the median of %d samples of at least %.1f ms; the middle half of a cell's samples spans at most %.0f percent of it.\n", count,
            SAMPLE_NS / 1e6, 100 * widest);
     return 0;

@@ -11,6 +11,7 @@
 #include <string.h>
 
 void bench_hash(const uint8_t *message, size_t message_length, uint8_t *out, size_t out_length);
+void bench_hmac(const uint8_t *key, size_t key_length, const uint8_t *message, size_t message_length, uint8_t *out, size_t out_length);
 void bench_derive_kept(const uint8_t *key, size_t key_length, const uint8_t *seeds, size_t seeds_length, uint8_t *out, size_t out_length);
 
 enum { KEY = 32, BLOCK = 8, CODE = 4, HASH = 32, SEED = 8, STRING = 16, DATA = 8, MESSAGE = DATA + 8, STRIDE = 64 };
@@ -67,6 +68,66 @@ static void box_message(const struct input *in, uint8_t *out) {
 
 static void box_opened(const struct input *in, uint8_t *out) {
     must(box_open(in->key, KEY, HEADER, sizeof HEADER, in->text, in->length, out, 3) == 0, "box_open");
+}
+
+/* In parts: the text at once, after a beginning and before an end. */
+
+static void fed_hash(const struct input *in, uint8_t *out) {
+    uint8_t state[BOX_HASH_STATE];
+    must(box_hash_begin(state, sizeof state) == 0, "box_hash_begin");
+    must(box_hash_feed(state, sizeof state, in->text, in->length) == 0, "box_hash_feed");
+    must(box_hash_end(state, sizeof state, out, HASH) == 0, "box_hash_end");
+}
+
+static void fed_hmac(const struct input *in, uint8_t *out) {
+    uint8_t state[BOX_HMAC_STATE];
+    must(box_hmac_begin(in->key, KEY, state, sizeof state) == 0, "box_hmac_begin");
+    must(box_hmac_feed(state, sizeof state, in->text, in->length) == 0, "box_hmac_feed");
+    must(box_hmac_end(state, sizeof state, out, HASH) == 0, "box_hmac_end");
+}
+
+static void whole_hmac(const struct input *in, uint8_t *out) {
+    bench_hmac(in->key, KEY, in->text, in->length, out, HASH);
+}
+
+static void fed_code(const struct input *in, uint8_t *out) {
+    uint8_t state[BOX_CODE_STATE];
+    must(box_code_begin(in->key, KEY, state, sizeof state) == 0, "box_code_begin");
+    must(box_code_feed(state, sizeof state, in->text, in->length) == 0, "box_code_feed");
+    must(box_code_end(state, sizeof state, out, CODE) == 0, "box_code_end");
+}
+
+/* States of which nothing was fed, and of which 16 MiB were. */
+static struct {
+    uint8_t hash[BOX_HASH_STATE], hmac[BOX_HMAC_STATE], code[BOX_CODE_STATE];
+} fresh, late;
+
+/* The text byte by byte, after one of them. */
+typedef uint8_t feeding(uint8_t *state, size_t state_length, const uint8_t *part, size_t part_length);
+
+static void bytes_of(const struct input *in, const uint8_t *from, size_t size, feeding *feed) {
+    uint8_t state[BOX_HMAC_STATE];
+    memcpy(state, from, size);
+    for (size_t i = 0; i < in->length; i++) must(feed(state, size, in->text + i, 1) == 0, "a byte");
+}
+
+#define BY_BYTES(name) \
+    static void name##_fresh(const struct input *in, uint8_t *out) { (void)out; bytes_of(in, fresh.name, sizeof fresh.name, box_##name##_feed); } \
+    static void name##_late(const struct input *in, uint8_t *out) { (void)out; bytes_of(in, late.name, sizeof late.name, box_##name##_feed); }
+BY_BYTES(hash)
+BY_BYTES(hmac)
+BY_BYTES(code)
+
+static void start_states(void) {
+    must(box_hash_begin(fresh.hash, sizeof fresh.hash) == 0, "box_hash_begin");
+    must(box_hmac_begin(keys[0], KEY, fresh.hmac, sizeof fresh.hmac) == 0, "box_hmac_begin");
+    must(box_code_begin(keys[0], KEY, fresh.code, sizeof fresh.code) == 0, "box_code_begin");
+    late = fresh;
+    for (size_t i = 0; i < 256; i++) {
+        must(box_hash_feed(late.hash, sizeof late.hash, pool, LARGEST_TEXT) == 0, "box_hash_feed");
+        must(box_hmac_feed(late.hmac, sizeof late.hmac, pool, LARGEST_TEXT) == 0, "box_hmac_feed");
+        must(box_code_feed(late.code, sizeof late.code, pool, LARGEST_TEXT) == 0, "box_code_feed");
+    }
 }
 
 /* Whole operations, KEPT of them under a master key that is kept. The counter of operation i is i + 1. */
@@ -362,6 +423,7 @@ void rows_start(void) {
         struct input in = {keys[turn], pool + turn * STRIDE, DATA};
         box_message(&in, messages[turn]);
     }
+    start_states();
 }
 
 struct input row_input(const struct row *row, size_t turn) {
@@ -396,3 +458,17 @@ const struct row rows[] = {
 };
 
 const size_t row_count = sizeof rows / sizeof rows[0];
+
+#define AT_ONCE(name, length, fed, whole) {name " of 65536 bytes", "fed at once; whole", LARGEST_TEXT, length, 1, {fed, whole, NULL}}
+#define BYTEWISE(name) {#name ", each of 1024 bytes", "fed one by one after 16 MiB; after none", 1024, 0, 1024, {name##_late, name##_fresh, NULL}}
+
+const struct row pairs[] = {
+    AT_ONCE("hash", HASH, fed_hash, box_hash),
+    AT_ONCE("HMAC", HASH, fed_hmac, whole_hmac),
+    AT_ONCE("code", CODE, fed_code, box_string),
+    BYTEWISE(hash),
+    BYTEWISE(hmac),
+    BYTEWISE(code),
+};
+
+const size_t pair_count = sizeof pairs / sizeof pairs[0];

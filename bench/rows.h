@@ -26,6 +26,10 @@ struct row {
 extern const struct row rows[];
 extern const size_t row_count;
 
+/* The box beside itself: in parts, and in the place of a peer what it is held to. */
+extern const struct row pairs[];
+extern const size_t pair_count;
+
 /* Makes the inputs and the peers' handles. */
 void rows_start(void);
 

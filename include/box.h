@@ -103,6 +103,29 @@ uint8_t box_wrap(const uint8_t *key, size_t key_length, const uint8_t *header, s
 uint8_t box_open(const uint8_t *key, size_t key_length, const uint8_t *header, size_t header_length, const uint8_t *message,
                  size_t message_length, uint8_t *found, size_t found_length);
 
+/* A message that comes in parts: the hash (GOST R 34.11-2012 with 256 bits), HMAC with it under a key of 32 bytes, and the code of box_code, each begun,
+ * fed with parts of any length, also none, and ended. Cut any way, the answer is that of the whole.
+ *
+ * The state lies in bytes that the caller lends, so many as the three numbers say, at any address. Any bytes of that number are a state: one may
+ * be copied, moved and gone on from twice. It is as secret as the key and the message that it is made of: clear it when it has served.
+ * A refusal leaves the state as it was, and it can be fed on; an end does not change it. The state does not overlap a part. */
+enum { BOX_HASH_STATE = 261, BOX_HMAC_STATE = 522, BOX_CODE_STATE = 53 };
+
+/* No bytes so far. Refusal 1 (the state's length, or the key's). */
+uint8_t box_hash_begin(uint8_t *state, size_t state_length);
+uint8_t box_hmac_begin(const uint8_t *key, size_t key_length, uint8_t *state, size_t state_length);
+uint8_t box_code_begin(const uint8_t *key, size_t key_length, uint8_t *state, size_t state_length);
+
+/* One part more. The total may come to 4,294,967,295 bytes; a key's block is not counted. Refusal 1 (the state's length, or the total). */
+uint8_t box_hash_feed(uint8_t *state, size_t state_length, const uint8_t *part, size_t part_length);
+uint8_t box_hmac_feed(uint8_t *state, size_t state_length, const uint8_t *part, size_t part_length);
+uint8_t box_code_feed(uint8_t *state, size_t state_length, const uint8_t *part, size_t part_length);
+
+/* The answer to all the bytes fed. out: 32, 32 and 4. Refusal 1 (a length; for the code also no whole block, or bytes after the last one). */
+uint8_t box_hash_end(const uint8_t *state, size_t state_length, uint8_t *out, size_t out_length);
+uint8_t box_hmac_end(const uint8_t *state, size_t state_length, uint8_t *out, size_t out_length);
+uint8_t box_code_end(const uint8_t *state, size_t state_length, uint8_t *out, size_t out_length);
+
 #ifdef __cplusplus
 }
 #endif

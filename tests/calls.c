@@ -2,15 +2,17 @@
  * lies between canaries, and an input is compared with a copy.
  *    NAME NUMBER WORDS...   a word for each argument: digits for a string, - for an empty one, null for none; digits for a number;
  *                           two for a lent output, before and after the call
- * It ends with a table of how often each number came of each function. With the word `all` a number that box.h names and that never came is a
- * failure. Functions beneath the library (hash, hmac) are left out and counted. */
+ * Each line of hash, hmac and box_code whose key and output have their lengths is also made in parts: begun, fed and ended over a lent state, cut
+ * at random, once with the word `all`, else 34 times.
+ * It ends with a table of how often each number came of each function, and how many cuttings were made. With the word `all` a number that
+ * box.h names and that never came is a failure. */
 #include "box.h"
 
 #include <stdio.h>
 #include <stdlib.h>
 #include <string.h>
 
-enum { CANARY = 0xc5, MARGIN = 24, WORDS = 12, ARGUMENTS = 6, NUMBERS = BOX_REFUSALS_END, LONGEST = 1 << 20 };
+enum { CANARY = 0xc5, MARGIN = 24, WORDS = 12, ARGUMENTS = 6, NUMBERS = BOX_REFUSALS_END, LONGEST = 1 << 20, CUTTINGS = 34 };
 
 static unsigned long line_number;
 
@@ -79,15 +81,47 @@ static const struct function functions[] = {
 enum { FUNCTIONS = sizeof functions / sizeof functions[0] };
 
 static unsigned long counts[FUNCTIONS][NUMBERS];
-static unsigned long calls, left_out;
+static unsigned long calls, cuttings, parts;
 
 static const struct function *find(const char *name) {
     size_t i;
     for (i = 0; i < FUNCTIONS; i++)
         if (strcmp(functions[i].name, name) == 0) return &functions[i];
-    if (strcmp(name, "hash") == 0 || strcmp(name, "hmac") == 0) return NULL;
-    fail("no such function");
     return NULL;
+}
+
+/* What takes parts, by the name of the line that says the answer to the whole. */
+struct form {
+    const char *name;
+    size_t state, out;
+    uint8_t (*begin)(const uint8_t *, size_t, uint8_t *, size_t);
+    uint8_t (*feed)(uint8_t *, size_t, const uint8_t *, size_t);
+    uint8_t (*end)(const uint8_t *, size_t, uint8_t *, size_t);
+};
+
+static uint8_t hash_begin(const uint8_t *key, size_t key_length, uint8_t *state, size_t length) {
+    (void)key;
+    (void)key_length;
+    return box_hash_begin(state, length);
+}
+
+static const struct form forms[] = {
+    {"hash", BOX_HASH_STATE, 32, hash_begin, box_hash_feed, box_hash_end},
+    {"hmac", BOX_HMAC_STATE, 32, box_hmac_begin, box_hmac_feed, box_hmac_end},
+    {"box_code", BOX_CODE_STATE, 4, box_code_begin, box_code_feed, box_code_end},
+};
+
+static const struct form *form_of(const char *name) {
+    size_t i;
+    for (i = 0; i < sizeof forms / sizeof forms[0]; i++)
+        if (strcmp(forms[i].name, name) == 0) return &forms[i];
+    return NULL;
+}
+
+static uint32_t any(void) {
+    static uint64_t seed = 20171219;
+    seed = seed * 6364136223846793005u + 1442695040888963407u;
+    return (uint32_t)(seed >> 33);
 }
 
 static unsigned digit(char sign) {
@@ -178,6 +212,59 @@ static void make(const struct function *f, char **words, size_t count) {
     calls++;
 }
 
+/* Bytes between canaries, which hold anything. */
+static uint8_t *room_for(uint8_t *room, size_t length) {
+    size_t i;
+    memset(room, CANARY, length + 2 * MARGIN);
+    for (i = 0; i < length; i++) room[MARGIN + i] = (uint8_t)any();
+    return room + MARGIN;
+}
+
+static void canaries(const uint8_t *room, size_t length) {
+    size_t i;
+    for (i = 0; i < MARGIN; i++)
+        if (room[i] != CANARY || room[MARGIN + length + i] != CANARY) fail("a byte beside a state or an answer was written");
+}
+
+/* The message of a line, begun, fed with parts of any length and ended: the number and the bytes are those of the whole. */
+static void cut(const struct form *f, const uint8_t *key, size_t key_length, const uint8_t *text, size_t length, uint8_t number, const uint8_t *wanted) {
+    static uint8_t room[BOX_HMAC_STATE + 2 * MARGIN], answer[32 + 2 * MARGIN], copy[BOX_HMAC_STATE], before[32];
+    uint8_t *state = room_for(room, f->state), *out = room_for(answer, f->out);
+    size_t done = 0, most = 1 + any() % (length + 1);
+    if (f->begin(key, key_length, state, f->state) != 0) fail("not begun");
+    while (done < length || any() % 4 == 0) {
+        size_t part = any() % 5 == 0 ? 0 : any() % (most + 1);
+        if (part > length - done) part = length - done;
+        if (f->feed(state, f->state, text + done, part) != 0) fail("a part was refused");
+        done += part;
+        parts++;
+    }
+    memcpy(copy, state, f->state);
+    memcpy(before, out, f->out);
+    if (f->end(state, f->state, out, f->out) != number) fail("another number in parts");
+    if (memcmp(out, number == 0 ? wanted : before, f->out) != 0) fail("another answer in parts");
+    if (memcmp(state, copy, f->state) != 0) fail("an end changed its state");
+    canaries(room, f->state);
+    canaries(answer, f->out);
+    cuttings++;
+}
+
+/* NAME NUMBER [KEY] TEXT BEFORE AFTER, made in parts where the key begins. */
+static void make_in_parts(const struct form *f, char **words, size_t count, int times) {
+    size_t keyed = f->begin != hash_begin;
+    uint8_t number = (uint8_t)strtoul(words[1], NULL, 10);
+    struct argument key = {NULL, NULL, NULL, 0, 0}, text, out;
+    if (count != 5 + keyed) fail("wrong number of words");
+    text = lend(words[2 + keyed], words[2 + keyed]);
+    out = lend(words[4 + keyed], words[4 + keyed]);
+    if (keyed) key = lend(words[2], words[2]);
+    if (out.length == f->out && (!keyed || key.length == 32))
+        while (times-- > 0) cut(f, key.at, key.length, text.at, text.length, number, out.at);
+    back(&text, f->name);
+    back(&out, f->name);
+    back(&key, f->name);
+}
+
 static int named(const struct function *f, int number) {
     return number == 0 || f->refusals[0] == number || f->refusals[1] == number || f->refusals[2] == number;
 }
@@ -218,8 +305,7 @@ static int report(int all) {
         printf("\n");
     }
     printf("%lu calls as computed", calls);
-    if (left_out > 0) printf(", %lu lines left out, not in the library", left_out);
-    printf("\n");
+    printf(", %lu cuttings in %lu parts\n", cuttings, parts);
     return missing;
 }
 
@@ -232,16 +318,19 @@ int main(int argc, char **argv) {
     while (fgets(line, LONGEST, stdin) != NULL) {
         size_t count;
         const struct function *f;
+        const struct form *form;
         line_number++;
         if (strchr(line, '\n') == NULL) fail("line too long or torn");
         count = split(line, words);
         if (count < 3) fail("too few words");
         f = find(words[0]);
-        if (f == NULL) left_out++;
-        else make(f, words, count);
+        form = form_of(words[0]);
+        if (f == NULL && form == NULL) fail("no such function");
+        if (f != NULL) make(f, words, count);
+        if (form != NULL) make_in_parts(form, words, count, all ? 1 : CUTTINGS);
     }
     missing = report(all);
-    if (calls == 0 || (all && missing > 0)) fail("a number never came");
+    if (calls + cuttings == 0 || (all && missing > 0)) fail("a number never came");
     free(line);
     return 0;
 }

@@ -417,6 +417,69 @@ static void of_values(void) {
     back(c, 0, 0, "values");
 }
 
+typedef uint8_t feeding(uint8_t *, size_t, const uint8_t *, size_t);
+typedef uint8_t ending(const uint8_t *, size_t, uint8_t *, size_t);
+
+/* A state of any bytes, whose total stands anywhere or just below the limit, fed and ended: total is where it has its total, whole whether it is a code, which
+ * wants whole blocks. */
+static void of_state(feeding *feed, ending *end, size_t size, size_t total, size_t out_right, int whole, const char *name) {
+    struct lent s = lend(length_near(size)), m = lend(any() % 200), o = lend(length_near(out_right));
+    uint64_t fed = 0;
+    int fits, i;
+    if (s.length == size) {
+        if (any() % 2 == 0) memset(s.at + total, 0xff, 4);
+        if (any() % 2 == 0) s.at[total] = (uint8_t)any();
+        keep(&s);
+        for (i = 3; i >= 0; i--) fed = fed << 8 | s.at[total + (size_t)i];
+    }
+    fits = s.length == size && fed + m.length <= UINT32_MAX;
+    expect(feed(s.at, s.length, m.at, m.length), fits ? 0 : 1, name);
+    if (fits) {
+        fed += m.length;
+        for (i = 0; i < 4; i++)
+            if (s.at[total + (size_t)i] != (uint8_t)(fed >> (8 * i))) fail("a total not counted");
+        keep(&s);
+    }
+    fits = s.length == size && o.length == out_right && (!whole || (fed >= 8 && s.at[total - 1] % 8 == 0));
+    expect(end(s.at, s.length, o.at, o.length), fits ? 0 : 1, name);
+    back(s, 0, 0, name);
+    back(m, 0, 0, name);
+    back(o, 0, fits ? out_right : 0, name);
+}
+
+/* Begun over any bytes, under a key of any length; where it is refused the state stays. */
+static void of_begun(two *begin, size_t size, const char *name) {
+    struct lent k = lend(length_near(32)), s = lend(length_near(size));
+    int fits = k.length == 32 && s.length == size;
+    expect(begin(k.at, k.length, NULL, 0, s.at, s.length), fits ? 0 : 1, name);
+    back(k, 0, 0, name);
+    back(s, 0, fits ? size : 0, name);
+}
+
+static uint8_t hmac_begin(const uint8_t *k, size_t n, const uint8_t *none, size_t zero, uint8_t *s, size_t length) {
+    (void)none;
+    (void)zero;
+    return box_hmac_begin(k, n, s, length);
+}
+
+static uint8_t code_begin(const uint8_t *k, size_t n, const uint8_t *none, size_t zero, uint8_t *s, size_t length) {
+    (void)none;
+    (void)zero;
+    return box_code_begin(k, n, s, length);
+}
+
+static void of_parts(void) {
+    struct lent s = lend(length_near(BOX_HASH_STATE));
+    int fits = s.length == BOX_HASH_STATE;
+    expect(box_hash_begin(s.at, s.length), fits ? 0 : 1, "box_hash_begin");
+    back(s, 0, fits ? BOX_HASH_STATE : 0, "box_hash_begin");
+    of_begun(hmac_begin, BOX_HMAC_STATE, "box_hmac_begin");
+    of_begun(code_begin, BOX_CODE_STATE, "box_code_begin");
+    of_state(box_hash_feed, box_hash_end, BOX_HASH_STATE, 257, 32, 0, "box_hash_feed, box_hash_end");
+    of_state(box_hmac_feed, box_hmac_end, BOX_HMAC_STATE, 257, 32, 0, "box_hmac_feed, box_hmac_end");
+    of_state(box_code_feed, box_code_end, BOX_CODE_STATE, 49, 4, 1, "box_code_feed, box_code_end");
+}
+
 int main(void) {
     int i;
     of_forms();
@@ -436,6 +499,7 @@ int main(void) {
         of_opening();
         of_pin_blocks();
         of_values();
+        of_parts();
     }
     printf("%lu calls, %lu accepted, every number and every lent byte as it must be\n", calls, accepted);
     return 0;

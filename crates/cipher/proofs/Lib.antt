@@ -1,3 +1,4 @@
 pub mod AnswerLaws
 pub mod Inverse
 pub mod CodeLaws
+pub mod CodingLaws

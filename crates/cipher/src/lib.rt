@@ -1,16 +1,19 @@
 // GOST 28147-89 (RFC 5830) with the substitution of RFC 7836 (id-tc26-gost-28147-param-Z): simple replacement both ways and
 // the 16-round code, by the rounds of `gost`. The compiled program has no branch on a key or on data.
 ghost use mathlib.Core.Path.{_≡_};
-ghost use Prim.Native.Nat.{_+_, _≤_};
+ghost use Prim.Native.Nat.{_+_, _<_, _≤_};
 ghost use lib.ListN.{length, take, drop};
-ghost use mathlib.Core.List.{_++_};
+ghost use mathlib.Core.List.{[], _∷_, _++_};
 ghost use Rattle.octets.specs.Numbers.{le};
 ghost use Rattle.blocks.specs.Blocks.{absorbed};
 ghost use Rattle.gost.specs.Gost.{rounds, halves, block, through, forth, back, subkeys};
 ghost use Rattle.cipher.specs.Code.{added, codeStep};
+ghost use Rattle.blocks.specs.Parts.{filled, poured};
 ghost use Rattle.cipher.specs.Answers.{enciphered, deciphered, coded, codedWith};
+ghost use Rattle.cipher.specs.Coding.{held, codeWay, codingBegun, codeBegun, codeFed, codeEnded};
 pub use answers::BlockAnswer;
 use answers::Refusal;
+use blocks::fits;
 pub use gost::Halves;
 use gost::eight;
 use gost::reversed;
@@ -19,6 +22,21 @@ use gost::reversed;
 pub struct CodeAnswer {
     pub code: u8,
     pub bytes: [u8; 4],
+}
+
+// The code under way: the first fill bytes of the buffer are not yet a block, and total bytes were fed.
+pub struct Coding {
+    pub subkeys: [u32; 8],
+    pub halves: Halves,
+    pub buffer: [u8; 8],
+    pub fill: usize,
+    pub total: u32,
+}
+
+// A code that was begun or fed: 0, or refusal 1 and the state as it was.
+pub struct CodeFed {
+    pub code: u8,
+    pub state: Coding,
 }
 
 // The word of the four octets from i on.
@@ -195,4 +213,137 @@ pub fn code(key: &[u8], string: &[u8]) -> CodeAnswer
         };
     }
     code_with(subkeys_of(key), string)
+}
+
+// A byte more, after bytes that the buffer holds with zeros after them. A block that it fills is taken.
+fn push(s: Coding, b: u8) -> Coding
+    requires { ⌜ (s .fill < 8) × (s .buffer ≡ filled 8 (held s)) ⌝ }
+    ensures { λ r. ⌜ r ≡ poured codeWay s (b ∷ []) (s .total) ⌝ }
+{
+    let subkeys = s.subkeys;
+    let halves = s.halves;
+    let mut buffer = s.buffer;
+    let at = s.fill;
+    buffer[at] = b;
+    if at < 7 {
+        return Coding {
+            subkeys,
+            halves,
+            buffer,
+            fill: at + 1,
+            total: s.total,
+        };
+    }
+    Coding {
+        subkeys,
+        halves: absorb(subkeys, halves, halves_at(&buffer, 0)),
+        buffer: [0; 8],
+        fill: 0,
+        total: s.total,
+    }
+}
+
+// The bytes of m more, one by one.
+fn push_all(s: Coding, m: &[u8]) -> Coding
+    requires { ⌜ (s .fill < 8) × (s .buffer ≡ filled 8 (held s)) ⌝ }
+    ensures { λ r. ⌜ r ≡ poured codeWay s (now (m .entry)) (s .total) ⌝ }
+{
+    let mut t = s;
+    let mut i = 0;
+    while i < m.len() {
+        t = push(t, m[i]);
+        i += 1;
+    }
+    t
+}
+
+// The bytes of m more, whole blocks at once: those up to a block's edge, the whole blocks after it, and the rest.
+fn pour(s: Coding, m: &[u8]) -> Coding
+    ensures { λ r. ⌜ r ≡ poured codeWay s (now (m .entry)) (s .total) ⌝ }
+{
+    let subkeys = s.subkeys;
+    let halves = s.halves;
+    let buffer = s.buffer;
+    let at = s.fill % 8;
+    let empty = Coding {
+        subkeys,
+        halves,
+        buffer: [0; 8],
+        fill: 0,
+        total: s.total,
+    };
+    let begun = push_all(empty, &buffer[0..at]);
+    let need = (8 - at) % 8;
+    if m.len() < need {
+        return push_all(begun, m);
+    }
+    let mut edge = push_all(begun, &m[0..need]);
+    let left = (m.len() - need) % 8;
+    let end = m.len() - left;
+    edge.halves = absorb_all(subkeys, edge.halves, &m[need..end]);
+    push_all(edge, &m[end..])
+}
+
+// The code of no bytes so far, under an expanded key.
+fn begun_with(subkeys: [u32; 8]) -> Coding
+    ensures { λ r. ⌜ r ≡ codingBegun subkeys ⌝ }
+{
+    Coding {
+        subkeys,
+        halves: Halves { n1: 0, n2: 0 },
+        buffer: [0; 8],
+        fill: 0,
+        total: 0,
+    }
+}
+
+// The code begun under a key of 32 bytes; another length: 1.
+pub fn code_begin(key: &[u8]) -> CodeFed
+    ensures { λ r. ⌜ r ≡ codeBegun (now (key .entry)) ⌝ }
+{
+    if key.len() != 32 {
+        return CodeFed {
+            code: Refusal::INPUT,
+            state: begun_with([0; 8]),
+        };
+    }
+    let state = begun_with(subkeys_of(key));
+    CodeFed { code: 0, state }
+}
+
+// One part of the string more, of any length. 1: the total would pass 4,294,967,295 bytes.
+pub fn code_feed(s: Coding, m: &[u8]) -> CodeFed
+    ensures { λ r. ⌜ r ≡ codeFed s (now (m .entry)) ⌝ }
+{
+    if !fits(s.total, m.len()) {
+        return CodeFed {
+            code: Refusal::INPUT,
+            state: s,
+        };
+    }
+    let total = s.total + m.len() as u32;
+    let mut state = pour(s, m);
+    state.total = total;
+    CodeFed { code: 0, state }
+}
+
+// The code of all the bytes fed. 1: no whole block, or bytes after the last one.
+pub fn code_end(s: Coding) -> CodeAnswer
+    ensures { λ r. ⌜ r ≡ codeEnded s ⌝ }
+{
+    if s.total < 8 {
+        return CodeAnswer {
+            code: Refusal::INPUT,
+            bytes: [0; 4],
+        };
+    }
+    if s.fill % 8 != 0 {
+        return CodeAnswer {
+            code: Refusal::INPUT,
+            bytes: [0; 4],
+        };
+    }
+    let halves = s.halves;
+    let bytes = octets::word_octets(halves.n1);
+    CodeAnswer { code: 0, bytes }
 }

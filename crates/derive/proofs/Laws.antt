@@ -15,10 +15,10 @@ use Rattle.rounds.specs.Lent.{laidWords}
 use Rattle.rounds.proofs.LentLaws.{laid-zeros}
 use Rattle.hash.specs.declared.State.{State}
 use Rattle.hash.specs.Hash.{hash256}
-use Rattle.hash.specs.States.{begun, fed, ended}
+use Rattle.hash.specs.States.{begun, pouredInto, ended}
 use Rattle.hash.specs.Ahead.{aheadOf, endedAhead, lastBlock, endedBlock}
-use Rattle.hash.proofs.Laws.{fed-fed, ended-fed}
-use Rattle.hash.proofs.AheadLaws.{length-ahead, eights-fed, ended-ahead, fed-block, length-block, ended-block}
+use Rattle.hash.proofs.Laws.{poured-on, ended-poured}
+use Rattle.hash.proofs.AheadLaws.{length-ahead, eights-poured, ended-ahead, poured-block, length-block, ended-block}
 use Rattle.derive.specs.Kept.{keptWords, keptFits, derivedKept, derivedOver}
 use Rattle.derive.proofs.PadLaws.{length-ipad, length-opad}
 use Rattle.derive.specs.Hmac.{ipad, opad, hmac}
@@ -27,29 +27,29 @@ use Rattle.derive.specs.Started.{started, hmacWith}
 use Rattle.octets.specs.Lengths.{keyFits}
 use Rattle.derive.specs.Answers.{seedFits, maced, derivation, cardDerivation, derivationKept, derivationOver, keyOf}
 
-two-parts : (x y : List ℕ) → ended (fed (fed begun x) y) ≡ hash256 (x ++ y)
-two-parts x y = ap ended (fed-fed begun x y) ∙ ended-fed (x ++ y)
+two-parts : (x y : List ℕ) → ended (pouredInto (pouredInto begun x) y) ≡ hash256 (x ++ y)
+two-parts x y = ap ended (poured-on begun x y) ∙ ended-poured (x ++ y)
 
 -- the key is paid for once, and every message gets its code
 pub hmac-started : (key m : List ℕ) → hmacWith (started key) m ≡ hmac key m
 unfolding hmacWith started hmac
 hmac-started key m =
-    ap (λ (x : List ℕ). ended (fed (fed begun (opad key)) x)) (two-parts (ipad key) m) ∙ two-parts (opad key) (hash256 (ipad key ++ m))
+    ap (λ (x : List ℕ). ended (pouredInto (pouredInto begun (opad key)) x)) (two-parts (ipad key) m) ∙ two-parts (opad key) (hash256 (ipad key ++ m))
 
--- the string fed in five parts
+-- the string pouredInto in five parts
 pub derived-parts : (key label seed : List ℕ)
-    → ended (fed (started key .outer) (ended (fed (fed (fed (fed (fed (started key .inner) (0x01 ∷ [])) label) (0x00 ∷ [])) seed) (0x01 ∷ 0x00 ∷ []))))
+    → ended (pouredInto (started key .outer) (ended (pouredInto (pouredInto (pouredInto (pouredInto (pouredInto (started key .inner) (0x01 ∷ [])) label) (0x00 ∷ [])) seed) (0x01 ∷ 0x00 ∷ []))))
     ≡ derived key label seed
 unfolding derived string hmacWith
 derived-parts key label seed =
     let i : State = started key .inner in
     let end : List ℕ = 0x01 ∷ 0x00 ∷ [] in
     let all =
-    fed-fed (fed (fed (fed i (0x01 ∷ [])) label) (0x00 ∷ [])) seed end
-    ∙ fed-fed (fed (fed i (0x01 ∷ [])) label) (0x00 ∷ []) (seed ++ end)
-    ∙ fed-fed (fed i (0x01 ∷ [])) label (0x00 ∷ (seed ++ end))
-    ∙ fed-fed i (0x01 ∷ []) (label ++ (0x00 ∷ (seed ++ end))) in
-    ap (λ (s : State). ended (fed (started key .outer) (ended s))) all ∙ hmac-started key (string label seed)
+    poured-on (pouredInto (pouredInto (pouredInto i (0x01 ∷ [])) label) (0x00 ∷ [])) seed end
+    ∙ poured-on (pouredInto (pouredInto i (0x01 ∷ [])) label) (0x00 ∷ []) (seed ++ end)
+    ∙ poured-on (pouredInto i (0x01 ∷ [])) label (0x00 ∷ (seed ++ end))
+    ∙ poured-on i (0x01 ∷ []) (label ++ (0x00 ∷ (seed ++ end))) in
+    ap (λ (s : State). ended (pouredInto (started key .outer) (ended s))) all ∙ hmac-started key (string label seed)
 
 -- a key kept: the words of the inner hash, and those of the outer
 module _ (key : List ℕ) where
@@ -61,11 +61,11 @@ module _ (key : List ℕ) where
 
   length-inner : length inner ≡ 128
   unfolding started
-  length-inner = length-ahead (fed begun (ipad key) .core) (eights-fed (ipad key))
+  length-inner = length-ahead (pouredInto begun (ipad key) .core) (eights-poured (ipad key))
 
   length-outer : length outer ≡ 128
   unfolding started
-  length-outer = length-ahead (fed begun (opad key) .core) (eights-fed (opad key))
+  length-outer = length-ahead (pouredInto begun (opad key) .core) (eights-poured (opad key))
 
   pub length-kept : length (keptWords key) ≡ 256
   unfolding keptWords
@@ -83,14 +83,14 @@ module _ (key : List ℕ) where
   pub derived-kept : (label seed : List ℕ) → length key ≡ 32 → derivedKept (keptWords key) label seed ≡ derived key label seed
   unfolding derivedKept keptWords started derived hmac
   derived-kept label seed e =
-      let i : State = fed begun (ipad key) in
-      let o : State = fed begun (opad key) in
+      let i : State = pouredInto begun (ipad key) in
+      let o : State = pouredInto begun (opad key) in
       let m : List ℕ = string label seed in
       ap₂ (λ (x y : List ℕ). endedAhead y (endedAhead x m)) (take-at inner outer 128 length-inner) (drop-at inner outer 128 length-inner)
-      ∙ ended-ahead (o .core) (eights-fed (opad key)) (endedAhead (aheadOf (i .core)) m)
-      ∙ ap₂ (λ (s : State) (x : List ℕ). ended (fed s x)) (fed-block (opad key) (length-opad key e))
-      (ended-ahead (i .core) (eights-fed (ipad key)) m
-      ∙ ap (λ (s : State). ended (fed s m)) (fed-block (ipad key) (length-ipad key e))
+      ∙ ended-ahead (o .core) (eights-poured (opad key)) (endedAhead (aheadOf (i .core)) m)
+      ∙ ap₂ (λ (s : State) (x : List ℕ). ended (pouredInto s x)) (poured-block (opad key) (length-opad key e))
+      (ended-ahead (i .core) (eights-poured (ipad key)) m
+      ∙ ap (λ (s : State). ended (pouredInto s m)) (poured-block (ipad key) (length-ipad key e))
       ∙ two-parts (ipad key) m)
       ∙ two-parts (opad key) (hash256 (ipad key ++ m))
 

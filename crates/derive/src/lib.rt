@@ -4,6 +4,7 @@ ghost use lib.ListN.{length};
 ghost use Rattle.derive.specs.Hmac.{keyPad};
 ghost use Rattle.derive.specs.Derivation.{string as stringOf, cardLabel};
 ghost use Rattle.derive.specs.Started.{started, hmacWith};
+ghost use Rattle.derive.specs.Macing.{macBegun, macFed, macEnded};
 ghost use Rattle.derive.specs.Kept.{keptWords};
 ghost use Rattle.derive.specs.Answers.{maced, derivation as derivationOf, cardDerivation, derivationKept, derivationOver, keyOf};
 pub use answers::KeyAnswer;
@@ -15,6 +16,12 @@ use rounds::lay;
 pub struct Started {
     pub inner: State,
     pub outer: State,
+}
+
+// An HMAC that was begun or fed: 0, or refusal 1 and the state as it was.
+pub struct MacFed {
+    pub code: u8,
+    pub state: Started,
 }
 
 // The words of a kept key: 128 of the inner hash, and 128 of the outer.
@@ -60,8 +67,8 @@ fn pad(p: u8, key: [u8; 32]) -> [u8; 64]
 pub fn start(key: [u8; 32]) -> Started
     ensures { λ r. ⌜ r ≡ started key ⌝ }
 {
-    let inner = hash::feed(hash::begin(), &pad(0x36, key));
-    let outer = hash::feed(hash::begin(), &pad(0x5c, key));
+    let inner = hash::pour(hash::begin(), &pad(0x36, key));
+    let outer = hash::pour(hash::begin(), &pad(0x5c, key));
     Started { inner, outer }
 }
 
@@ -71,8 +78,8 @@ pub fn hmac_with(k: Started, m: &[u8]) -> [u8; 32]
 {
     let inner = k.inner;
     let outer = k.outer;
-    let x = hash::end(hash::feed(inner, m));
-    hash::end(hash::feed(outer, &x))
+    let x = hash::end(hash::pour(inner, m));
+    hash::end(hash::pour(outer, &x))
 }
 
 // HMAC of a message under a key of 32 bytes; another length: 1.
@@ -89,6 +96,49 @@ pub fn hmac(key: &[u8], m: &[u8]) -> KeyAnswer
     KeyAnswer { code: 0, bytes }
 }
 
+// HMAC begun under a key of 32 bytes; another length: 1.
+pub fn hmac_begin(key: &[u8]) -> MacFed
+    ensures { λ r. ⌜ r ≡ macBegun (now (key .entry)) ⌝ }
+{
+    if key.len() != 32 {
+        let state = Started {
+            inner: hash::begin(),
+            outer: hash::begin(),
+        };
+        return MacFed {
+            code: Refusal::INPUT,
+            state,
+        };
+    }
+    let state = start(key_of(key));
+    MacFed { code: 0, state }
+}
+
+// One part of the message more, of any length. 1: the total would pass 4,294,967,295 bytes.
+pub fn hmac_feed(s: Started, m: &[u8]) -> MacFed
+    ensures { λ r. ⌜ r ≡ macFed s (now (m .entry)) ⌝ }
+{
+    let inner = s.inner;
+    let outer = s.outer;
+    let f = hash::feed(inner, m);
+    let fed = f.state;
+    let state = Started { inner: fed, outer };
+    MacFed {
+        code: f.code,
+        state,
+    }
+}
+
+// HMAC of all the bytes fed.
+pub fn hmac_end(s: Started) -> [u8; 32]
+    ensures { λ r. ⌜ r ≡ macEnded s ⌝ }
+{
+    let inner = s.inner;
+    let outer = s.outer;
+    let x = hash::end(inner);
+    hash::end(hash::pour(outer, &x))
+}
+
 // The key derived from a key of 32 bytes, a label and a seed of any length; another key: 1.
 pub fn derivation(key: &[u8], label: &[u8], seed: &[u8]) -> KeyAnswer
     ensures { λ r. ⌜ r ≡ derivationOf (now (key .entry)) (now (label .entry)) (now (seed .entry)) ⌝ }
@@ -102,10 +152,10 @@ pub fn derivation(key: &[u8], label: &[u8], seed: &[u8]) -> KeyAnswer
     let s = start(key_of(key));
     let inner = s.inner;
     let outer = s.outer;
-    let a = hash::feed(hash::feed(inner, &[0x01]), label);
-    let b = hash::feed(hash::feed(a, &[0x00]), seed);
-    let x = hash::end(hash::feed(b, &[0x01, 0x00]));
-    let bytes = hash::end(hash::feed(outer, &x));
+    let a = hash::pour(hash::pour(inner, &[0x01]), label);
+    let b = hash::pour(hash::pour(a, &[0x00]), seed);
+    let x = hash::end(hash::pour(b, &[0x01, 0x00]));
+    let bytes = hash::end(hash::pour(outer, &x));
     KeyAnswer { code: 0, bytes }
 }
 

@@ -10,6 +10,11 @@ ghost use Rattle.pin.specs.Answers.{writePin, readPin};
 ghost use Rattle.cryptogram.specs.Answers.{kindOf, arpcAnswer};
 ghost use Rattle.exports.specs.Lent.{Given, GivenKey, GivenBlock, GivenCode, GivenIdn, GivenRead, GivenOpened, byNumber};
 ghost use Rattle.message.specs.Answers.{opened, wrapped, Wrote};
+ghost use Rattle.hash.specs.States.{hashWay, begun, ended};
+ghost use Rattle.derive.specs.Macing.{macWay, macBegun, macEnded};
+ghost use Rattle.cipher.specs.Coding.{codeWay, codeBegun, codeEnded};
+ghost use Rattle.parts.specs.Forms.{hashIn, hashForm, macIn, macForm, codeIn, codeForm};
+ghost use Rattle.parts.specs.Lent.{begunNumber, begunAfter, fedNumber, fedAfter, endedNumber, endedAfter};
 use answers::Refusal;
 use cryptogram::KindRead;
 use message::Opened;
@@ -236,4 +241,101 @@ pub extern "C" fn box_open(key: &[u8], header: &[u8], message: &[u8], found: &mu
         }
         Opened::Refused(n) => give(n, &[0, 0, 0], found),
     }
+}
+
+// A hash of no bytes so far, in a lent state of 261 bytes. 1: its length.
+#[no_mangle]
+pub extern "C" fn box_hash_begin(state: &mut [u8]) -> u8
+    ensures { λ r. ⌜ (r ≡ begunNumber hashForm 0 (now (state .entry))) × (now (state .exit) ≡ begunAfter hashForm 0 begun (now (state .entry))) ⌝ }
+{
+    parts::hash_begin(state)
+}
+
+// One part more. 1: the length of the state, or the total.
+#[no_mangle]
+pub extern "C" fn box_hash_feed(state: &mut [u8], part: &[u8]) -> u8
+    ensures { λ r. ⌜
+        (r ≡ fedNumber hashForm hashWay (now (state .entry)) (now (part .entry)))
+        × (now (state .exit) ≡ fedAfter hashForm hashWay (now (state .entry)) (now (part .entry)))
+        ⌝ }
+{
+    parts::hash_feed(state, part)
+}
+
+// The hash of all the bytes fed. 1: a length.
+#[no_mangle]
+pub extern "C" fn box_hash_end(state: &[u8], out: &mut [u8]) -> u8
+    ensures { λ r. ⌜
+        (r ≡ endedNumber hashForm 32 (now (state .entry)) (now (out .entry)) 0)
+        × (now (out .exit) ≡ endedAfter hashForm 32 (now (state .entry)) (now (out .entry)) 0 (ended (hashIn (now (state .entry)))))
+        ⌝ }
+{
+    parts::hash_end(state, out)
+}
+
+// HMAC of no bytes so far under a key of 32, in a lent state of 522 bytes. 1: a length.
+#[no_mangle]
+pub extern "C" fn box_hmac_begin(key: &[u8], state: &mut [u8]) -> u8
+    ensures { λ r. ⌜
+        (r ≡ begunNumber macForm (macBegun (now (key .entry)) .code) (now (state .entry)))
+        × (now (state .exit) ≡ begunAfter macForm (macBegun (now (key .entry)) .code) (macBegun (now (key .entry)) .state) (now (state .entry)))
+        ⌝ }
+{
+    parts::hmac_begin(key, state)
+}
+
+// One part more. 1: the length of the state, or the total.
+#[no_mangle]
+pub extern "C" fn box_hmac_feed(state: &mut [u8], part: &[u8]) -> u8
+    ensures { λ r. ⌜
+        (r ≡ fedNumber macForm macWay (now (state .entry)) (now (part .entry)))
+        × (now (state .exit) ≡ fedAfter macForm macWay (now (state .entry)) (now (part .entry)))
+        ⌝ }
+{
+    parts::hmac_feed(state, part)
+}
+
+// HMAC of all the bytes fed. 1: a length.
+#[no_mangle]
+pub extern "C" fn box_hmac_end(state: &[u8], out: &mut [u8]) -> u8
+    ensures { λ r. ⌜
+        (r ≡ endedNumber macForm 32 (now (state .entry)) (now (out .entry)) 0)
+        × (now (out .exit) ≡ endedAfter macForm 32 (now (state .entry)) (now (out .entry)) 0 (macEnded (macIn (now (state .entry)))))
+        ⌝ }
+{
+    parts::hmac_end(state, out)
+}
+
+// The code of no bytes so far under a key of 32, in a lent state of 53 bytes. 1: a length.
+#[no_mangle]
+pub extern "C" fn box_code_begin(key: &[u8], state: &mut [u8]) -> u8
+    ensures { λ r. ⌜
+        (r ≡ begunNumber codeForm (codeBegun (now (key .entry)) .code) (now (state .entry)))
+        × (now (state .exit) ≡ begunAfter codeForm (codeBegun (now (key .entry)) .code) (codeBegun (now (key .entry)) .state) (now (state .entry)))
+        ⌝ }
+{
+    parts::code_begin(key, state)
+}
+
+// One part more. 1: the length of the state, or the total.
+#[no_mangle]
+pub extern "C" fn box_code_feed(state: &mut [u8], part: &[u8]) -> u8
+    ensures { λ r. ⌜
+        (r ≡ fedNumber codeForm codeWay (now (state .entry)) (now (part .entry)))
+        × (now (state .exit) ≡ fedAfter codeForm codeWay (now (state .entry)) (now (part .entry)))
+        ⌝ }
+{
+    parts::code_feed(state, part)
+}
+
+// The code of all the bytes fed. 1: a length, no whole block, or bytes after the last one.
+#[no_mangle]
+pub extern "C" fn box_code_end(state: &[u8], out: &mut [u8]) -> u8
+    ensures { λ r. ⌜
+        (r ≡ endedNumber codeForm 4 (now (state .entry)) (now (out .entry)) (codeEnded (codeIn (now (state .entry))) .code))
+        × (now (out .exit)
+        ≡ endedAfter codeForm 4 (now (state .entry)) (now (out .entry)) (codeEnded (codeIn (now (state .entry))) .code) (codeEnded (codeIn (now (state .entry))) .bytes))
+        ⌝ }
+{
+    parts::code_end(state, out)
 }

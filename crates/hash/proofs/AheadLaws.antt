@@ -21,7 +21,8 @@ use Rattle.rounds.proofs.LentLaws.{vector-in, laid-zeros}
 use Rattle.rounds.proofs.KeyLaws.{length-keys, g-by, with-all}
 use Rattle.hash.specs.declared.Core.{Core}
 use Rattle.hash.specs.Hash.{start, blockStep, afterBlock, advanced, padded, closed, finished}
-use Rattle.hash.specs.States.{filled, stateOf, held, begun, fed, ended}
+use Rattle.blocks.specs.Parts.{filled, poured}
+use Rattle.hash.specs.States.{stateOf, held, begun, pouredInto, ended}
 use Rattle.hash.specs.Ahead.{aheadOf, coreIn, advancedBy, endedAhead, closedOver, lastBlock, endedBlock}
 use Rattle.hash.proofs.Laws.{held-stateOf, core-stateOf, length-g, length-closed-over, closed-over}
 use Rattle.hash.proofs.BlockLaws.{put-empty, padded-filled}
@@ -29,7 +30,7 @@ use Rattle.hash.proofs.BlockLaws.{put-empty, padded-filled}
 -- the last block as the code makes it
 pub padded-put : (m : List ℕ) → length m < 64 → set (paste (zeros 64) 0 m (length m)) (length m) 1 ≡ padded m
 padded-put m h =
-    ap (λ (b : List ℕ). set b (length m) 1) (put-empty m (length m) (omega arith) (omega arith) ∙ ap filled (take-length m))
+    ap (λ (b : List ℕ). set b (length m) 1) (put-empty m (length m) (omega arith) (omega arith) ∙ ap (filled 64) (take-length m))
     ∙ padded-filled m (length m) refl h
 
 module _ (a m : List ℕ) (e : length a ≡ 128) where
@@ -37,7 +38,7 @@ module _ (a m : List ℕ) (e : length a ≡ 128) where
   unfolding endedAhead
   ended-short h = simp (eq-eqb _ _ e, lt-ltb _ _ h)
 
-  ended-long : 64 ≤ length m → ended (fed (stateOf (coreIn a) []) m) ≡ endedAhead a m
+  ended-long : 64 ≤ length m → ended (pouredInto (stateOf (coreIn a) [] 0) m) ≡ endedAhead a m
   unfolding endedAhead
   ended-long h = simp (eq-eqb _ _ e, le-ltb _ _ h)
 
@@ -138,31 +139,32 @@ keys-lent a h m e =
     ap (λ (ks : List ℕ). gWith ks h m) (take-all (length a - 24) (drop 24 a) (omega arith)) ∙ sym (with-all (drop 24 a) h m n)
 
 -- less than a block after a core
-finished-core : (c : Core) (m : List ℕ) → length m < 64 → ended (fed (stateOf c []) m) ≡ finished c m
-unfolding ended fed
+finished-core : (c : Core) (m : List ℕ) → length m < 64 → ended (pouredInto (stateOf c [] 0) m) ≡ finished c m
+unfolding ended pouredInto poured
 finished-core c m h =
-    let b : List ℕ = held (stateOf c []) ++ m in
-    let e : b ≡ m = ap (λ (t : List ℕ). t ++ m) (held-stateOf c [] (lit< tt)) in
-    ap₂ (λ (d : Core) (t : List ℕ). finished (stateOf (absorbed 64 blockStep d t) (tail 64 t) .core) (held (stateOf (absorbed 64 blockStep d t) (tail 64 t))))
-    (core-stateOf c []) e
-    ∙ ap₂ finished (core-stateOf (absorbed 64 blockStep c m) (tail 64 m) ∙ absorbed-end 64 (lit< tt) blockStep c m h)
-    (ap (λ (t : List ℕ). held (stateOf (absorbed 64 blockStep c m) t)) (tail-end 64 (lit< tt) m h) ∙ held-stateOf (absorbed 64 blockStep c m) m h)
+    let n : ℕ = stateOf c [] 0 .total in
+    let b : List ℕ = held (stateOf c [] 0) ++ m in
+    let e : b ≡ m = ap (λ (t : List ℕ). t ++ m) (held-stateOf c [] 0 (lit< tt)) in
+    ap₂ (λ (d : Core) (t : List ℕ). finished (stateOf (absorbed 64 blockStep d t) (tail 64 t) n .core) (held (stateOf (absorbed 64 blockStep d t) (tail 64 t) n)))
+    (core-stateOf c [] 0) e
+    ∙ ap₂ finished (core-stateOf (absorbed 64 blockStep c m) (tail 64 m) n ∙ absorbed-end 64 (lit< tt) blockStep c m h)
+    (ap (λ (t : List ℕ). held (stateOf (absorbed 64 blockStep c m) t n)) (tail-end 64 (lit< tt) m h) ∙ held-stateOf (absorbed 64 blockStep c m) m n h)
 
 module _ (c : Core) (e : Eights c) (m : List ℕ) where
-  short : length m < 64 → endedAhead (aheadOf c) m ≡ ended (fed (stateOf c []) m)
+  short : length m < 64 → endedAhead (aheadOf c) m ≡ ended (pouredInto (stateOf c [] 0) m)
   unfolding finished
   short h =
       sym (ended-short (aheadOf c) m (length-ahead c e) h)
       ∙ ap closed (advanced-by c e (8 * length m) (words (padded m)))
       ∙ sym (finished-core c m h)
 
-  pub ended-ahead : endedAhead (aheadOf c) m ≡ ended (fed (stateOf c []) m)
+  pub ended-ahead : endedAhead (aheadOf c) m ≡ ended (pouredInto (stateOf c [] 0) m)
   ended-ahead = go (ltb (length m) 64) refl
     where
-      go : (b : Bool) → ltb (length m) 64 ≡ b → endedAhead (aheadOf c) m ≡ ended (fed (stateOf c []) m)
+      go : (b : Bool) → ltb (length m) 64 ≡ b → endedAhead (aheadOf c) m ≡ ended (pouredInto (stateOf c [] 0) m)
       go true t = short (ltb-true _ _ t)
       go false t =
-          sym (ended-long (aheadOf c) m (length-ahead c e) (ltb-false _ _ t)) ∙ ap (λ (d : Core). ended (fed (stateOf d []) m)) (core-in c e)
+          sym (ended-long (aheadOf c) m (length-ahead c e) (ltb-false _ _ t)) ∙ ap (λ (d : Core). ended (pouredInto (stateOf d [] 0) m)) (core-in c e)
 
 -- the vectors of a hash under way have eight words
 eights-step : (c : Core) (b : List ℕ) → Eights (blockStep c b)
@@ -178,16 +180,16 @@ eights-start : Eights start
 unfolding start words
 eights-start = (refl, length-vec 0, length-vec 0)
 
-pub eights-fed : (m : List ℕ) → Eights (fed begun m .core)
-unfolding fed begun absorbed stateOf
-eights-fed m = eights-taken (length (held begun ++ m) / 64) start (held begun ++ m) eights-start
+pub eights-poured : (m : List ℕ) → Eights (pouredInto begun m .core)
+unfolding pouredInto poured begun absorbed stateOf
+eights-poured m = eights-taken (length (held begun ++ m) / 64) start (held begun ++ m) eights-start
 
 -- a whole block leaves nothing held
-pub fed-block : (b : List ℕ) → length b ≡ 64 → stateOf (fed begun b .core) [] ≡ fed begun b
-unfolding fed begun tail
-fed-block b e =
-    let t : List ℕ = held (stateOf start []) ++ b in
-    let c : Core = absorbed 64 blockStep (stateOf start [] .core) t in
-    let n : length t ≡ 64 = ap length (ap (λ (x : List ℕ). x ++ b) (held-stateOf start [] (lit< tt))) ∙ e in
+pub poured-block : (b : List ℕ) → length b ≡ 64 → stateOf (pouredInto begun b .core) [] 0 ≡ pouredInto begun b
+unfolding pouredInto poured begun tail stateOf
+poured-block b e =
+    let t : List ℕ = held (stateOf start [] 0) ++ b in
+    let c : Core = absorbed 64 blockStep (stateOf start [] 0 .core) t in
+    let n : length t ≡ 64 = ap length (ap (λ (x : List ℕ). x ++ b) (held-stateOf start [] 0 (lit< tt))) ∙ e in
     let z : length t ≤ length t / 64 * 64 = omega arith in
-    ap (λ (d : Core). stateOf d []) (core-stateOf c (tail 64 t)) ∙ ap (stateOf c) (sym (drop-of-length-le t z))
+    ap (λ (d : Core). stateOf d [] 0) (core-stateOf c (tail 64 t) 0) ∙ ap (λ (x : List ℕ). stateOf c x 0) (sym (drop-of-length-le t z))

@@ -12,7 +12,7 @@ use Rattle.octets.proofs.Parts.{zeros, drop-zeros, part-part, elements, element
 use Rattle.lps.specs.Vectors.{each, words, bytes}
 use Rattle.lps.proofs.Bytes.{bytes-at}
 use Rattle.hash.specs.Hash.{padded}
-use Rattle.hash.specs.States.{filled}
+use Rattle.blocks.specs.Parts.{filled}
 
 -- the words of the block from p on
 module _ (m : List ℕ) (p : ℕ) (h : p + 64 ≤ length m) where
@@ -55,7 +55,7 @@ put-turn b m at from i hb hm =
     ∙ ap (paste b at (drop from m)) (sym (add-one i))
 
 -- bytes put after those that a buffer has
-pub put-filled : (t s : List ℕ) (at n : ℕ) → length t ≡ at → at + n ≤ 64 → n ≤ length s → paste (filled t) at s n ≡ filled (t ++ take n s)
+pub put-filled : (t s : List ℕ) (at n : ℕ) → length t ≡ at → at + n ≤ 64 → n ≤ length s → paste (filled 64 t) at s n ≡ filled 64 (t ++ take n s)
 unfolding filled
 put-filled t s at n e h l =
     let z : List ℕ = replicate (64 - length t) 0 in
@@ -65,19 +65,19 @@ put-filled t s at n e h l =
     ∙ ap₂ (λ (x y : List ℕ). x ++ take n s ++ y) (take-append-seam t z)
     (drop-append-add t z n ∙ drop-zeros n (64 - length t) ∙ ap (λ (k : ℕ). replicate k 0) d)
 
-pub put-empty : (s : List ℕ) (n : ℕ) → n ≤ 64 → n ≤ length s → paste (zeros 64) 0 s n ≡ filled (take n s)
+pub put-empty : (s : List ℕ) (n : ℕ) → n ≤ 64 → n ≤ length s → paste (zeros 64) 0 s n ≡ filled 64 (take n s)
 unfolding filled
 put-empty s n h l = put-filled [] s 0 n refl (omega arith) l
 
 -- a full buffer
-pub filled-full : (t : List ℕ) → length t ≡ 64 → filled t ≡ t
+pub filled-full : (t : List ℕ) → length t ≡ 64 → filled 64 t ≡ t
 unfolding filled
 filled-full t e =
     let z : 64 - length t ≡ 0 = omega arith in
     ap (λ (k : ℕ). t ++ replicate k 0) z ∙ append-nil t
 
 -- the last block
-pub padded-filled : (t : List ℕ) (n : ℕ) → length t ≡ n → n < 64 → set (filled t) n 1 ≡ padded t
+pub padded-filled : (t : List ℕ) (n : ℕ) → length t ≡ n → n < 64 → set (filled 64 t) n 1 ≡ padded t
 unfolding filled padded
 padded-filled t n e h =
     let z : 64 - length t ≡ suc (63 - length t) = omega arith in

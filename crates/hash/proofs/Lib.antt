@@ -1,4 +1,4 @@
 pub mod Laws
 pub mod BlockLaws
-pub mod FeedLaws
+pub mod PourLaws
 pub mod AheadLaws

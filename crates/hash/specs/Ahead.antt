@@ -11,7 +11,7 @@ use Rattle.rounds.specs.Rounds.{gOver}
 use Rattle.rounds.specs.Lent.{vectorAt}
 use Rattle.rounds.specs.Keys.{keysOf, gBy}
 use Rattle.hash.specs.Hash.{padded, afterBlock, closed}
-use Rattle.hash.specs.States.{stateOf, fed, ended}
+use Rattle.hash.specs.States.{stateOf, pouredInto, ended}
 use Rattle.hash.specs.declared.Core.{Core}
 
 unfoldable pub aheadOf : Core → List ℕ
@@ -29,7 +29,7 @@ advancedBy a n m = afterBlock (coreIn a) (gBy (drop 24 a) (coreIn a .h) m) n m
 unfoldable pub endedAhead : List ℕ → List ℕ → List ℕ
 endedAhead a m =
     cond (eqb (length a) 128)
-    (cond (ltb (length m) 64) (closed (advancedBy a (8 * length m) (words (padded m)))) (ended (fed (stateOf (coreIn a) []) m)))
+    (cond (ltb (length m) 64) (closed (advancedBy a (8 * length m) (words (padded m)))) (ended (pouredInto (stateOf (coreIn a) [] 0) m)))
     (replicate 32 0)
 
 -- the last steps of stage 3 with the constants cs, which are made once for many hashes

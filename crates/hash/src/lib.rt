@@ -8,8 +8,10 @@ ghost use Rattle.octets.specs.Numbers.{le};
 ghost use Rattle.blocks.specs.Blocks.{absorbed};
 ghost use Rattle.lps.specs.Vectors.{words, bytes};
 ghost use Rattle.hash.specs.Hash.{afterBlock, advanced, blockStep, hash256};
-ghost use Rattle.hash.specs.States.{begun, fed, ended};
+ghost use Rattle.hash.specs.States.{begun, pouredInto, fed, ended};
 ghost use Rattle.hash.specs.Ahead.{aheadOf, coreIn, closedOver, lastBlock, endedBlock};
+use answers::Refusal;
+use blocks::fits;
 use octets::octet;
 use rounds::add;
 use rounds::compress_block;
@@ -29,11 +31,18 @@ pub struct Core {
     pub sigma: [u64; 8],
 }
 
-// A hash under way: the first fill bytes of the buffer are not yet a block.
+// A hash under way: the first fill bytes of the buffer are not yet a block, and total bytes were fed.
 pub struct State {
     pub core: Core,
     pub buffer: [u8; 64],
     pub fill: usize,
+    pub total: u32,
+}
+
+// A hash that was fed: 0, or refusal 1 and the state as it was.
+pub struct Fed {
+    pub code: u8,
+    pub state: State,
 }
 
 // The word of eight bytes, lowest first.
@@ -82,6 +91,26 @@ fn load(m: &[u8], p: usize) -> [u64; 8]
         word_at(m, p + 48),
         word_at(m, p + 56),
     ]
+}
+
+// The words of a block's bytes.
+pub fn words_of(b: [u8; 64]) -> [u64; 8]
+    ensures { λ r. ⌜ r ≡ words b ⌝ }
+{
+    load(&b, 0)
+}
+
+// The bytes of a block's words.
+pub fn bytes_of(v: [u64; 8]) -> [u8; 64]
+    ensures { λ r. ⌜ r ≡ bytes v ⌝ }
+{
+    let mut r = [0; 64];
+    let mut k = 0;
+    while k < 64 {
+        r[k] = octet(v[k / 8], k);
+        k += 1;
+    }
+    r
 }
 
 // After a block m that makes h, of which so many bits are of the message.
@@ -156,12 +185,13 @@ pub fn begin() -> State
         core: core,
         buffer: [0; 64],
         fill: 0,
+        total: 0,
     }
 }
 
-// One part of the message more, of any length. What the buffer has after the bytes held is cleared.
-pub fn feed(s: State, m: &[u8]) -> State
-    ensures { λ r. ⌜ r ≡ fed s (now (m .entry)) ⌝ }
+// Bytes of any number more, which no total counts: for the crates above. What the buffer has after the bytes held is cleared.
+pub fn pour(s: State, m: &[u8]) -> State
+    ensures { λ r. ⌜ r ≡ pouredInto s (now (m .entry)) ⌝ }
 {
     let core = s.core;
     let buffer = s.buffer;
@@ -174,6 +204,7 @@ pub fn feed(s: State, m: &[u8]) -> State
             core: core,
             buffer: b,
             fill: at + m.len(),
+            total: s.total,
         };
     }
     let full = put(kept, at, m, 0, need);
@@ -185,7 +216,24 @@ pub fn feed(s: State, m: &[u8]) -> State
         core: core2,
         buffer: b,
         fill: left,
+        total: s.total,
     }
+}
+
+// One part of the message more, of any length. 1: the total would pass 4,294,967,295 bytes.
+pub fn feed(s: State, m: &[u8]) -> Fed
+    ensures { λ r. ⌜ r ≡ fed s (now (m .entry)) ⌝ }
+{
+    if !fits(s.total, m.len()) {
+        return Fed {
+            code: Refusal::INPUT,
+            state: s,
+        };
+    }
+    let total = s.total + m.len() as u32;
+    let mut state = pour(s, m);
+    state.total = total;
+    Fed { code: 0, state }
 }
 
 // The last block of a message of less than a block, padded; of another, zeros.
@@ -223,7 +271,7 @@ fn close(cs: &[[u64; 8]], c: Core) -> [u8; 32]
     digest(compress_upper(cs, [0; 8], compress_over(cs, [0; 8], h, n), sigma))
 }
 
-// The hash of all the bytes fed. The constants are made once for its last three compressions.
+// The hash of all the bytes pouredInto. The constants are made once for its last three compressions.
 pub fn end(s: State) -> [u8; 32]
     ensures { λ r. ⌜ r ≡ ended s ⌝ }
 {
@@ -242,7 +290,7 @@ pub fn end(s: State) -> [u8; 32]
 pub fn hash(m: &[u8]) -> [u8; 32]
     ensures { λ r. ⌜ r ≡ hash256 (now (m .entry)) ⌝ }
 {
-    end(feed(begin(), m))
+    end(pour(begin(), m))
 }
 
 // A core and the round keys of its next block, as 128 words, for many messages.

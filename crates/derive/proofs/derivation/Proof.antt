@@ -3,7 +3,7 @@ use mathlib.Core.List.{List, [], _∷_}
 use Prim.Native.Nat.{ℕ}
 use Rattle.answers.specs.Answers.{aKey, noKey}
 use Rattle.hash.specs.declared.State.{State}
-use Rattle.hash.specs.States.{fed, ended}
+use Rattle.hash.specs.States.{pouredInto, ended}
 use Rattle.derive.specs.declared.Started.{Started}
 use Rattle.derive.specs.Started.{started}
 use Rattle.derive.proofs.Laws.{no-key, fits, derived-parts, key-of-fits}
@@ -24,10 +24,10 @@ returns-2 c =
     let two = c .before .before .before .before .before .before .before .before .before in
     let start = c .before .before .before .before .before .before .before .before .before .before .before .before .before .before in
     let k : start .start .result ≡ started key = start .start .ensures ∙ ap started (start .before .key-of .ensures ∙ key-of-fits key l) in
-    let a = two .feed2 .ensures ∙ ap (λ (s : State). fed s label) (two .before .feed .ensures ∙ ap (λ (s : Started). fed (s .inner) (0x01 ∷ [])) k) in
-    let b = c .before .before .before .before .before .before .feed4 .ensures ∙ ap (λ (s : State). fed s seed) (c .before .before .before .before .before .before .before .feed3 .ensures ∙ ap (λ (s : State). fed s (0x00 ∷ [])) a) in
-    let e = c .before .before .before .end .ensures ∙ ap ended (c .before .before .before .before .feed5 .ensures ∙ ap (λ (s : State). fed s (0x01 ∷ 0x00 ∷ [])) b) in
-    ap aKey (c .end2 .ensures ∙ ap ended (c .before .feed6 .ensures ∙ ap₂ (λ (s : Started) (y : List ℕ). fed (s .outer) y) k e) ∙ derived-parts key label seed)
+    let a = two .pour2 .ensures ∙ ap (λ (s : State). pouredInto s label) (two .before .pour .ensures ∙ ap (λ (s : Started). pouredInto (s .inner) (0x01 ∷ [])) k) in
+    let b = c .before .before .before .before .before .before .pour4 .ensures ∙ ap (λ (s : State). pouredInto s seed) (c .before .before .before .before .before .before .before .pour3 .ensures ∙ ap (λ (s : State). pouredInto s (0x00 ∷ [])) a) in
+    let e = c .before .before .before .end .ensures ∙ ap ended (c .before .before .before .before .pour5 .ensures ∙ ap (λ (s : State). pouredInto s (0x01 ∷ 0x00 ∷ [])) b) in
+    ap aKey (c .end2 .ensures ∙ ap ended (c .before .pour6 .ensures ∙ ap₂ (λ (s : Started) (y : List ℕ). pouredInto (s .outer) y) k e) ∙ derived-parts key label seed)
     ∙ fits key label seed l
 
 pub derivation-spec : {M : Type 1} → statement M

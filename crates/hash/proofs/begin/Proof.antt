@@ -3,7 +3,8 @@ use Rattle.octets.specs.Numbers.{le}
 use Rattle.lps.specs.Vectors.{words}
 use Rattle.rounds.specs.Sums.{vec, lowest}
 use Rattle.hash.specs.Hash.{start}
-use Rattle.hash.specs.States.{begun, stateOf, filled}
+use Rattle.blocks.specs.Parts.{filled}
+use Rattle.hash.specs.States.{begun, stateOf}
 use Rattle.hash.proofs.begin.Statement.{statement}
 use Rattle.hash.proofs.begin.Tie as tie
 

@@ -1,54 +1,27 @@
-use mathlib.Core.Path.{_≡_, refl}
+use mathlib.Core.Path.{_≡_}
 use native.Mathlib.Omega.{arith}
-use lib.ListN.{length}
-use Rattle.hash.proofs.FeedLaws.{fed-short, fed-long}
+use Rattle.blocks.proofs.PartLaws.{fits-most}
+use Rattle.hash.proofs.Laws.{fed-not, fed-fits}
 use borrow.Author.Needs.{needs}
 use Rattle.hash.proofs.feed.Statement.{statement}
 use Rattle.hash.proofs.feed.Tie as tie
 
-put-requires : tie.Need-put-requires
-put-requires c κs =
-    let start = c .before .before .before .before .before in
-    let b : length (start .args .s .buffer) ≡ 64 = search (needs, start .good) in
-    (omega arith, omega arith)
+cast-total : tie.Need-cast-total
+cast-total c = let h = fits-most _ _ _ (c .before .fits2 .ensures) (c .if1 .left) in search (needs, h)
 
-returns : tie.Need-returns
-returns c =
-    let start = c .before .before .before .before .before .before .before .before in
-    let a = start .args in
-    let b : length (a .s .buffer) ≡ 64 = search (needs, start .good) in
-    fed-short (a .s) (a .m .now) (c .before .before .put .result) b (c .before .before .put .ensures) (c .put2 .result) (omega arith) (c .put2 .ensures)
+add-total : tie.Need-add-total
+add-total c = let h = fits-most _ _ _ (c .before .before .fits2 .ensures) (c .before .if1 .left) in search (needs, h)
 
 returns-2 : tie.Need-returns-2
-returns-2 c =
-    let start = c .before .before .before .before .before .before .before .before .before .before .before .before .before in
-    let a = start .args in
-    let b : length (a .s .buffer) ≡ 64 = search (needs, start .good) in
-    let p = c .before .before .before .before .before .before .before .put in
-    let full = c .before .before .before .before .before .put3 in
-    let load = c .before .before .before .load in
-    let one = c .before .before .advance in
-    let all = c .before .absorb in
-    fed-long (a .s) (a .m .now) (p .result) b (p .ensures) _ _ refl (omega (arith, c .before .before .before .before .before .before .if1 .left)) refl
-    (full .result) (load .result) (c .put4 .result) (one .result) (all .result)
-    (full .ensures) (load .ensures) (one .ensures) (all .ensures) (c .put4 .ensures)
+returns-2 c = search (fed-fits, needs)
 
 pub feed-spec : {M : Type 1} → statement M
 feed-spec =
     tie.close
     (tie.spec
-    (λ c. search needs)
-    put-requires
-    (λ c. search needs)
     (λ c κs. search needs)
-    (λ c. search needs)
-    returns
-    (λ c κs. search needs)
-    (λ c. search needs)
-    (λ c κs. search needs)
-    (λ c κs. search needs)
-    (λ c κs. search needs)
-    (λ c. search needs)
-    (λ c. search needs)
+    (λ c. search (fed-not, needs))
+    cast-total
+    add-total
     (λ c κs. search needs)
     returns-2)

@@ -111,11 +111,16 @@ pub record Cases : Type 0 where
   pub arpc : (u : List ℕ) → arpcFor (openAt 0) u ≡ arpcOf (subkeys 8 (keyAt 0 0 1)) (replicate 8 0) u
   pub counters : gives blocked Counters ≡ record { number = 0; kind = 0; bytes = encipher (hash256 (keyAt 1 1 4)) (0 ∷ 5 ∷ 0 ∷ 6 ∷ 0 ∷ 7 ∷ 0 ∷ 8 ∷ []) }
   -- opening: "1, 4, 8"; wrapping: 1 (key, header, tag, L), then 3
-  pub opens-1-4 : openNumber [] [] [] ≡ 1
+  pub opens-key-4 : openNumber [] (replicate 4 0) [] ≡ 1
+  pub opens-header-4 : openNumber (replicate 32 0) [] [] ≡ 1
   pub opens-4 : openNumber (replicate 32 0) (replicate 4 0) [] ≡ 4
   pub opens-8 : (m : List ℕ) → shape m ≡ true → codeFits (replicate 32 0) (replicate 4 0) m ≡ false → openNumber (replicate 32 0) (replicate 4 0) m ≡ 8
   pub wraps-1-3 : wrapNumber [] (replicate 4 0) 0x81 0 7 0 ≡ 1
   pub wraps-tag : wrapNumber (replicate 32 0) (replicate 4 0) 0x82 0 8 0 ≡ 1
   pub wraps-256 : wrapNumber (replicate 32 0) (replicate 4 0) 0x81 256 300 0 ≡ 1
+  pub wraps-header-3 : wrapNumber (replicate 32 0) [] 0x81 0 7 0 ≡ 1
+  pub wraps-tag-3 : wrapNumber (replicate 32 0) (replicate 4 0) 0x82 0 7 0 ≡ 1
+  pub wraps-256-3 : wrapNumber (replicate 32 0) (replicate 4 0) 0x81 256 7 0 ≡ 1
+  pub wraps-past : wrapNumber (replicate 32 0) (replicate 4 0) 0x81 0 8 9 ≡ 3
   pub wraps-3 : wrapNumber (replicate 32 0) (replicate 4 0) 0x81 0 8 1 ≡ 3
   pub wraps-0 : wrapNumber (replicate 32 0) (replicate 4 0) 0x81 0 9 1 ≡ 0

@@ -158,7 +158,7 @@ fn lay(mut c: Card, t: Transaction) -> Card
 }
 
 // An accepted Open, of a record whose counters can grow.
-fn opened(mut c: Card, ac: &[u64], input: &[u8]) -> Reply
+fn opening(mut c: Card, ac: &[u64], input: &[u8]) -> Reply
     requires { ⌜ (c .atc < 65535) × ((c .counters .session < 65535) × (length (now input) ≡ 65)) ⌝ }
     ensures { λ r. ⌜ (Fits (now (ac .entry)) (c .ac) → r ≡ reply (accepted c (Open (now (input .entry)))) (gives c (Open (now (input .entry))))) ⌝ }
 {
@@ -404,7 +404,7 @@ impl Card {
         if self.counters.session == 65535 {
             return plainly(self, Refusal::COUNTER_FULL);
         }
-        opened(self, ac, input)
+        opening(self, ac, input)
     }
 
     // The issuer's answer, ARPC and CSU: 6, 1, 11.

@@ -103,7 +103,7 @@ fn digits_of(b0: u8, b1: u8, b2: u8, b3: u8) -> [u8; 8]
 }
 
 // The answer to an accepted Open: 00, kind and cryptogram.
-fn opened(held: Held, kind: u8, bytes: [u8; 8]) -> Said
+fn with_kind(held: Held, kind: u8, bytes: [u8; 8]) -> Said
     ensures { λ r. ⌜ r ≡ said (record { after = held; octets = 0 ∷ kind ∷ bytes }) ⌝ }
 {
     let k = octets::hex(kind);
@@ -185,7 +185,7 @@ pub fn replied(tag: u8, reply: Reply) -> Said
         return short(one(card), reply.code);
     }
     if tag == 1 {
-        return opened(one(card), reply.kind, bytes);
+        return with_kind(one(card), reply.kind, bytes);
     }
     if tag == 6 {
         return counted(one(card), bytes);

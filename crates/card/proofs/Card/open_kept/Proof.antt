@@ -19,7 +19,7 @@ returns-5 : tie.Need-returns-5
 returns-5 c = search open-session
 
 returns-6 : tie.Need-returns-6
-returns-6 c = λ fits. let e = c .opened .ensures fits in search open-done
+returns-6 c = λ fits. let e = c .opening .ensures fits in search open-done
 
 pub open-kept-spec : {M : Type 1} → statement M
 open-kept-spec =

@@ -1,13 +1,13 @@
 use Rattle.card.proofs.CallLaws.{opened-by}
 use borrow.Author.Needs.{needs}
-use Rattle.card.proofs.opened.Statement.{statement}
-use Rattle.card.proofs.opened.Tie as tie
+use Rattle.card.proofs.opening.Statement.{statement}
+use Rattle.card.proofs.opening.Tie as tie
 
 returns : tie.Need-returns
 returns c = λ fits. let e = c .before .before .before .before .before .before .session-key .ensures fits in search (opened-by, needs)
 
-pub opened-spec : {M : Type 1} → statement M
-opened-spec =
+pub opening-spec : {M : Type 1} → statement M
+opening-spec =
     tie.close
     (tie.spec
     (λ c. search needs)

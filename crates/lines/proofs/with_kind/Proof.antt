@@ -1,13 +1,13 @@
 use Rattle.lines.proofs.SaidLaws.{opened-said}
 use borrow.Author.Needs.{needs}
-use Rattle.lines.proofs.opened.Statement.{statement}
-use Rattle.lines.proofs.opened.Tie as tie
+use Rattle.lines.proofs.with_kind.Statement.{statement}
+use Rattle.lines.proofs.with_kind.Tie as tie
 
 returns : tie.Need-returns
 returns c = search (needs, opened-said)
 
-pub opened-spec : {M : Type 1} → statement M
-opened-spec =
+pub with-kind-spec : {M : Type 1} → statement M
+with-kind-spec =
     tie.close
     (tie.spec
     (λ c κs. search needs)

@@ -185,13 +185,14 @@ module _ {S A : Type 0} (w : Way S A) (l : Keeps w) where
   -- so, from a state with nothing fed, it is cut any way where the end gives the answer to a message fed at once
   pub cut-any-way : {R : Type 0} (begun : S) (ended : S → R) (answer : List ℕ → R) → Settled begun → w .total begun ≡ 0
       → ((m : List ℕ) → ended (counted w begun m) ≡ answer m) → CutAnyWay begun (λ s m. partNumber (w .total s) m) (after w) ended answer
+  unfolding partNumber fits
   cut-any-way begun ended answer e z f =
       let all : (ms : List (List ℕ)) → afterAll (after w) begun ms ≡ counted w begun (fitting 0 ms) =
       λ ms. cut ms begun e ∙ ap (λ (n : ℕ). counted w begun (fitting n ms)) z in
       record {
         answered = λ ms. ap ended (all ms) ∙ f (fitting 0 ms);
         numbered = λ ms m.
-            ap (λ (n : ℕ). partNumber n m)
+            ap (λ (n : ℕ). cond (leb (n + length m) 4294967295) 0 1)
             (ap (w .total) (all ms) ∙ total-counted begun (fitting 0 ms) ∙ ap (λ (n : ℕ). n + length (fitting 0 ms)) z ∙ zero-add (length (fitting 0 ms)));
         unchanged = λ s m h. left-alone s m (fits (w .total s) (length m)) refl h;
         same = λ ms ns h. all ms ∙ ap (counted w begun) h ∙ sym (all ns);

@@ -38,7 +38,8 @@ module _ {S : Type 0} (next : S → List ℕ → S) where
 -- where the same bytes were taken the states are the same, in whatever way they were cut; and parts whose total is within the limit all fit
 pub record CutAnyWay {S R : Type 0} (begun : S) (numberOf : S → List ℕ → ℕ) (next : S → List ℕ → S) (ended : S → R) (answer : List ℕ → R) : Type 0 where
   pub answered : (ms : List (List ℕ)) → ended (afterAll next begun ms) ≡ answer (fitting 0 ms)
-  pub numbered : (ms : List (List ℕ)) (m : List ℕ) → numberOf (afterAll next begun ms) m ≡ partNumber (length (fitting 0 ms)) m
+  pub numbered : (ms : List (List ℕ)) (m : List ℕ)
+      → numberOf (afterAll next begun ms) m ≡ cond (leb (length (fitting 0 ms) + length m) 4294967295) 0 (number Input)
   pub unchanged : (s : S) (m : List ℕ) → (numberOf s m ≡ 0 → ⊥) → next s m ≡ s
   pub same : (ms ns : List (List ℕ)) → fitting 0 ms ≡ fitting 0 ns → afterAll next begun ms ≡ afterAll next begun ns
   pub within : (ms : List (List ℕ)) → length (whole ms) ≤ 4294967295 → fitting 0 ms ≡ whole ms

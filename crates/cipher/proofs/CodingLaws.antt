@@ -237,6 +237,14 @@ module _ (key : List ℕ) where
   unfolding codeBegun keyFits
   begun-fits h ks s ek es = simp (eq-eqb _ _ h) (ap (λ (x : Coding). record { code = 0; state = x }) (es ∙ ap codingBegun ek))
 
+  pub code-begins : codeBegun key .code ≡ cond (eqb (length key) 32) 0 1
+  unfolding codeBegun keyFits
+  code-begins = by (eqb (length key) 32)
+    where
+      by : (b : Bool) → cond {A = CodeFed} b (record { code = 0; state = codingBegun (subkeys 8 key) }) (record { code = 1; state = codingBegun (replicate 8 0) }) .code ≡ cond {A = ℕ} b 0 1
+      by true = refl
+      by false = refl
+
 module _ (s : Coding) (m : List ℕ) where
   pub fed-not : (r : Bool) → r ≡ fits (s .total) (length m) → not r ≡ true → record { code = 1; state = s } ≡ codeFed s m
   unfolding codeFed

@@ -5,6 +5,7 @@ use mathlib.Core.List.{List, [], _++_}
 use Prim.Native.Nat.{ℕ, _+_}
 use native.Mathlib.Nat.{zero-add}
 use borrow.Author.Tests.{eq-eqb, ne-eqb}
+use lib.Dec.{eqb}
 use lib.ListN.{length}
 use Rattle.octets.specs.Lengths.{keyFits}
 use Rattle.blocks.specs.Parts.{Way, fits, partNumber, poured, counted, after, CutAnyWay}
@@ -78,6 +79,14 @@ module _ (key : List ℕ) where
   unfolding macBegun keyFits
   begun-fits h k s ek es =
       simp (eq-eqb _ _ h) (ap (λ (x : Started). record { code = 0; state = x }) (es ∙ ap started (ek ∙ key-of-fits key h)))
+
+  pub mac-begins : macBegun key .code ≡ cond (eqb (length key) 32) 0 1
+  unfolding macBegun keyFits
+  mac-begins = by (eqb (length key) 32)
+    where
+      by : (b : Bool) → cond {A = MacFed} b (record { code = 0; state = started key }) (record { code = 1; state = record { inner = begun; outer = begun } }) .code ≡ cond {A = ℕ} b 0 1
+      by true = refl
+      by false = refl
 
   -- the message fed at once
   ended-all : (m : List ℕ) → macEnded (counted macWay (started key) m) ≡ hmac key m

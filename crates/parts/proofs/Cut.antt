@@ -37,7 +37,7 @@ use Rattle.cipher.specs.Coding.{codingOf, held as codeHeld, codeWay, codingBegu
 use Rattle.cipher.proofs.AnswerLaws.{code-key}
 use Rattle.cipher.proofs.CodingLaws.{under-cut}
 use Rattle.parts.specs.Forms.{Form, hashIn, hashForm, macIn, macForm, codeIn, codeForm}
-use Rattle.parts.specs.Lent.{lentFits, begunAfter, fedNumber, fedAfter, endedNumber, endedAfter}
+use Rattle.parts.specs.Lent.{lentFits, begunNumber, begunAfter, fedNumber, fedAfter, endedNumber, endedAfter}
 use Rattle.parts.specs.Statement.{Strings, more, LentAnyWay}
 use Rattle.parts.proofs.LayLaws.{length-hashOut}
 use Rattle.parts.proofs.WordLaws.{CoreGood, start-good, step-good, code-step-good, subkeys-below, length-subkeys, absorbed-keeps}
@@ -142,6 +142,15 @@ module _ {S A : Type 0} (f : Form S) (w : Way S A) (P : S → Type 0) (again : (
           unchanged = fed-stays;
           unwritten = end-stays;
         }
+
+-- a refused beginning leaves every lent byte
+pub begun-stays : {S : Type 0} (f : Form S) (c : ℕ) (s : S) (b : List ℕ) → (begunNumber f c b ≡ 0 → ⊥) → begunAfter f c s b ≡ b
+unfolding begunNumber begunAfter
+begun-stays {S} f c s b h = by (lentFits f b) h
+  where
+    by : (r : Bool) → (cond r c 1 ≡ 0 → ⊥) → cond (r && eqb c 0) (f .out s) b ≡ b
+    by true h = ap (λ (e : Bool). cond e (f .out s) b) (ne-eqb c 0 h)
+    by false h = refl
 
 -- what a part that fits keeps, feeding keeps
 after-keeps : {S A : Type 0} (w : Way S A) (P : S → Type 0) (s : S) (m : List ℕ) → P s → (w .total s + length m < 2 ^ 32 → P (counted w s m)) → P (after w s m)

@@ -2,11 +2,13 @@
 use mathlib.Core.Path.{_≡_}
 use mathlib.Core.Bool.{cond}
 use mathlib.Core.List.{List, [], _∷_}
-use Prim.Native.Nat.{ℕ}
-use lib.Dec.{eqb}
+use Prim.Native.Nat.{ℕ, _+_}
+use lib.Dec.{eqb, leb}
 use lib.ListN.{length}
 use Rattle.octets.specs.Numbers.{Octets}
-use Rattle.blocks.specs.Parts.{partNumber, fitting, afterAll}
+use Rattle.answers.specs.declared.Refusal.the-variants.{Input}
+use Rattle.answers.specs.Refusals.{number}
+use Rattle.blocks.specs.Parts.{fitting, afterAll}
 
 -- parts of octets, as every part that is lent is
 pub data Strings : List (List ℕ) → Type 0 where
@@ -19,12 +21,12 @@ pub data Strings : List (List ℕ) → Type 0 where
 -- answer to the bytes that fit, at once. Where the same bytes were taken, the lent bytes are the same. And for any bytes at all: where a part is refused the
 -- state stays, where an end is refused the slice stays
 pub record LentAnyWay (size : ℕ) (begun : List ℕ → List ℕ) (numberOf : List ℕ → List ℕ → ℕ) (next : List ℕ → List ℕ → List ℕ) (endNumber : List ℕ → List ℕ → ℕ)
-    (endAfter : List ℕ → List ℕ → List ℕ) (room : ℕ) (number : List ℕ → ℕ) (octets : List ℕ → List ℕ) : Type 0 where
+    (endAfter : List ℕ → List ℕ → List ℕ) (room : ℕ) (numberFor : List ℕ → ℕ) (octets : List ℕ → List ℕ) : Type 0 where
   pub numbered : (b : List ℕ) (ms : List (List ℕ)) (m : List ℕ) → length b ≡ size → Strings ms
-      → numberOf (afterAll next (begun b) ms) m ≡ partNumber (length (fitting 0 ms)) m
+      → numberOf (afterAll next (begun b) ms) m ≡ cond (leb (length (fitting 0 ms) + length m) 4294967295) 0 (number Input)
   pub ended : (b : List ℕ) (ms : List (List ℕ)) (out : List ℕ) → length b ≡ size → Strings ms → length out ≡ room
-      → (endNumber (afterAll next (begun b) ms) out ≡ number (fitting 0 ms))
-      × (endAfter (afterAll next (begun b) ms) out ≡ cond (eqb (number (fitting 0 ms)) 0) (octets (fitting 0 ms)) out)
+      → (endNumber (afterAll next (begun b) ms) out ≡ numberFor (fitting 0 ms))
+      × (endAfter (afterAll next (begun b) ms) out ≡ cond (eqb (numberFor (fitting 0 ms)) 0) (octets (fitting 0 ms)) out)
   pub same : (b : List ℕ) (ms ns : List (List ℕ)) → length b ≡ size → Strings ms → Strings ns → fitting 0 ms ≡ fitting 0 ns
       → afterAll next (begun b) ms ≡ afterAll next (begun b) ns
   pub unchanged : (b m : List ℕ) → (numberOf b m ≡ 0 → ⊥) → next b m ≡ b

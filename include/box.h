@@ -1,4 +1,4 @@
-/* The box: keys, codes, PIN blocks, cryptograms and script messages of the Mir scheme, for C and C++.
+/* The box: keys, codes, hashes, PIN blocks, cryptograms and script messages of the Mir scheme, for C and C++.
  *
  * Every function returns the number of its refusal, and 0 where it accepts; refusals.h has the numbers with their names and words (box_words).
  * Where several would hold, the first in the order that the function's comment gives is returned. A digit above 9 is no digit: 2, and 12.
@@ -108,7 +108,11 @@ uint8_t box_open(const uint8_t *key, size_t key_length, const uint8_t *header, s
  *
  * The state lies in bytes that the caller lends, so many as the three numbers say, at any address. Any bytes of that number are a state: one may
  * be copied, moved and gone on from twice. It is as secret as the key and the message that it is made of: clear it when it has served.
- * A refusal leaves the state as it was, and it can be fed on; an end does not change it. The state does not overlap a part. */
+ * A refusal leaves the state as it was, and it can be fed on; an end does not change it. The state does not overlap a part.
+ *    uint8_t state[BOX_HASH_STATE];
+ *    box_hash_begin(state, sizeof state);
+ *    while ((n = bytes that arrived) > 0) box_hash_feed(state, sizeof state, bytes, n);
+ *    box_hash_end(state, sizeof state, out, 32); */
 enum { BOX_HASH_STATE = 261, BOX_HMAC_STATE = 522, BOX_CODE_STATE = 53 };
 
 /* No bytes so far. Refusal 1 (the state's length, or the key's). */

@@ -34,11 +34,11 @@ unfolding fitting
 fitting-none n = refl
 
 fitting-fits : (n : ℕ) (m : List ℕ) (ms : List (List ℕ)) → fits n (length m) ≡ true → fitting n (m ∷ ms) ≡ m ++ fitting (n + length m) ms
-unfolding fitting
+unfolding fitting fits
 fitting-fits n m ms h = ap (λ (b : Bool). cond b (m ++ fitting (n + length m) ms) (fitting n ms)) h
 
 fitting-not : (n : ℕ) (m : List ℕ) (ms : List (List ℕ)) → fits n (length m) ≡ false → fitting n (m ∷ ms) ≡ fitting n ms
-unfolding fitting
+unfolding fitting fits
 fitting-not n m ms h = ap (λ (b : Bool). cond b (m ++ fitting (n + length m) ms) (fitting n ms)) h
 
 fits-within : (n k : ℕ) → n + k ≤ 4294967295 → fits n k ≡ true

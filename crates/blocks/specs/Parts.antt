@@ -25,7 +25,7 @@ whole (m ∷ ms) = m ++ whole ms
 -- the bytes of the parts that fit, after n bytes: one that does not fit is refused, and the next follows on those before it
 unfoldable pub fitting : ℕ → List (List ℕ) → List ℕ
 fitting n [] = []
-fitting n (m ∷ ms) = cond (fits n (length m)) (m ++ fitting (n + length m) ms) (fitting n ms)
+fitting n (m ∷ ms) = cond (leb (n + length m) 4294967295) (m ++ fitting (n + length m) ms) (fitting n ms)
 
 module _ {S : Type 0} (next : S → List ℕ → S) where
   -- the state after parts one after the other, where next is the state after one, whatever the answer to it

@@ -36,7 +36,7 @@ unfolding hmacWith started hmac
 hmac-started key m =
     ap (λ (x : List ℕ). ended (pouredInto (pouredInto begun (opad key)) x)) (two-parts (ipad key) m) ∙ two-parts (opad key) (hash256 (ipad key ++ m))
 
--- the string pouredInto in five parts
+-- the string poured in five parts
 pub derived-parts : (key label seed : List ℕ)
     → ended (pouredInto (started key .outer) (ended (pouredInto (pouredInto (pouredInto (pouredInto (pouredInto (started key .inner) (0x01 ∷ [])) label) (0x00 ∷ [])) seed) (0x01 ∷ 0x00 ∷ []))))
     ≡ derived key label seed

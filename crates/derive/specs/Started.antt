@@ -1,4 +1,4 @@
--- The two hashes of a key, each pouredInto with its padded key, so that many messages pay for the key once. Assumes nothing.
+-- The two hashes of a key, each with its padded key poured into it, so that many messages pay for the key once. Assumes nothing.
 use mathlib.Core.List.{List}
 use Prim.Native.Nat.{ℕ}
 use Rattle.hash.specs.States.{begun, pouredInto, ended}

@@ -1,5 +1,5 @@
--- What the crates above need: a state holds what it is made with, parts pouredInto one after the other are pouredInto at once, a hash that is
--- begun, pouredInto and ended is the hash, and a hash is 32 octets. Assumes nothing.
+-- What the crates above need: a state holds what it is made with, bytes poured one after the other are poured at once, a hash that is
+-- begun, fed in any parts and ended is the hash, and a hash is 32 octets. Assumes nothing.
 use mathlib.Core.Path.{_≡_, refl, sym, ap, ap₂, _∙_}
 use mathlib.Core.Bool.{Bool, true, false, not}
 use mathlib.Core.List.{List, [], _++_}

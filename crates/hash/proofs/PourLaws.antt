@@ -17,7 +17,7 @@ use Rattle.hash.specs.States.{stateOf, held, pouredInto}
 use Rattle.octets.proofs.Parts.{zeros}
 use Rattle.hash.proofs.BlockLaws.{put-filled, put-empty, filled-full}
 
--- the part m is pouredInto to s; kept is the buffer with zeros after what it holds
+-- m is poured into s; kept is the buffer with zeros after what it holds
 module _ (s : State) (m kept : List ℕ) (hb : length (s .buffer) ≡ 64) (ek : kept ≡ paste (zeros 64) 0 (s .buffer) (s .fill % 64)) where
   length-held : length (held s) ≡ s .fill % 64
   unfolding held

@@ -271,7 +271,7 @@ fn close(cs: &[[u64; 8]], c: Core) -> [u8; 32]
     digest(compress_upper(cs, [0; 8], compress_over(cs, [0; 8], h, n), sigma))
 }
 
-// The hash of all the bytes pouredInto. The constants are made once for its last three compressions.
+// The hash of all the bytes fed. The constants are made once for its last three compressions.
 pub fn end(s: State) -> [u8; 32]
     ensures { λ r. ⌜ r ≡ ended s ⌝ }
 {

@@ -1,6 +1,6 @@
 -- Over lent bytes a message is cut any way: from the states' being read as they were written, and from the cutting by value. Assumes nothing.
 use mathlib.Core.Path.{_≡_, refl, sym, ap, ap₂, _∙_, subst}
-use mathlib.Core.Bool.{Bool, true, false, _&&_, cond}
+use mathlib.Core.Bool.{Bool, true, false, _&&_, cond, and-false}
 use mathlib.Core.List.{List, [], _∷_, _++_, map}
 use Prim.Native.Nat.{ℕ, zero, suc, _+_, _-_, _*_, _/_, _%_, _^_, _<_, _≤_}
 use native.Mathlib.Omega.{arith}
@@ -24,7 +24,7 @@ use Rattle.derive.specs.declared.MacFed.{MacFed}
 use Rattle.derive.specs.Hmac.{keyPad, ipad, opad, hmac}
 use Rattle.derive.specs.Started.{started}
 use Rattle.derive.specs.Macing.{macWay, macBegun, macFed, macEnded}
-use Rattle.derive.proofs.MacLaws.{started-cut}
+use Rattle.derive.proofs.MacLaws.{started-cut, mac-begins}
 use Rattle.gost.specs.declared.Halves.{Halves}
 use Rattle.gost.specs.Gost.{subkeys}
 use Rattle.gost.proofs.Rounds.{Words}
@@ -35,7 +35,7 @@ use Rattle.cipher.specs.declared.CodeAnswer.{CodeAnswer}
 use Rattle.cipher.specs.Answers.{codedWith, coded}
 use Rattle.cipher.specs.Coding.{codingOf, held as codeHeld, codeWay, codingBegun, codeBegun, codeFed, codeEnded}
 use Rattle.cipher.proofs.AnswerLaws.{code-key}
-use Rattle.cipher.proofs.CodingLaws.{under-cut}
+use Rattle.cipher.proofs.CodingLaws.{under-cut, code-begins}
 use Rattle.parts.specs.Forms.{Form, hashIn, hashForm, macIn, macForm, codeIn, codeForm}
 use Rattle.parts.specs.Lent.{lentFits, begunNumber, begunAfter, fedNumber, fedAfter, endedNumber, endedAfter}
 use Rattle.parts.specs.Statement.{Strings, more, LentAnyWay}
@@ -45,9 +45,26 @@ use Rattle.parts.proofs.FormLaws.{Good, sized, hash-again, MacGood, len
 
 -- ---- over any form and way, and any property of states that feeding keeps and under which a state is read as it was written
 
+either : (r : Bool) → _≡_ {A = ℕ} (cond r 1 1) 1
+either true = refl
+either false = refl
+
 pick : {S : Type 0} (r : Bool) (g : S → List ℕ) (a s : S) → cond r (g (cond r a s)) (g s) ≡ g (cond r a s)
 pick true g a s = refl
 pick false g a s = refl
+
+-- a refused beginning leaves every lent byte
+pub begun-stays : {S : Type 0} (f : Form S) (c : ℕ) (s : S) (b : List ℕ) → (begunNumber f c b ≡ 0 → ⊥) → begunAfter f c s b ≡ b
+unfolding begunNumber begunAfter
+begun-stays {S} f c s b h = by (lentFits f b) h
+  where
+    by : (r : Bool) → (cond r c 1 ≡ 0 → ⊥) → cond (r && eqb c 0) (f .out s) b ≡ b
+    by true h = ap (λ (e : Bool). cond e (f .out s) b) (ne-eqb c 0 h)
+    by false h = refl
+
+begins-by : {S : Type 0} (f : Form S) (c : ℕ) (b : List ℕ) → begunNumber f c b ≡ cond (eqb (length b) (f .size)) c 1
+unfolding begunNumber lentFits
+begins-by f c b = refl
 
 module _ {S A : Type 0} (f : Form S) (w : Way S A) (P : S → Type 0) (again : (s : S) → P s → f .into (f .out s) ≡ s)
     (size : (s : S) → P s → length (f .out s) ≡ f .size) (keeps : (s : S) (m : List ℕ) → P s → Octets m → P (after w s m)) where
@@ -118,11 +135,25 @@ module _ {S A : Type 0} (f : Form S) (w : Way S A) (P : S → Type 0) (again : (
         by true false h = refl
         by false t h = refl
 
+    part-other : (b m : List ℕ) → (length b ≡ f .size → ⊥) → fedNumber f w b m ≡ 1
+    unfolding fedNumber lentFits
+    part-other b m h = ap (λ (r : Bool). cond r (partNumber (w .total (f .into b)) m) 1) (ne-eqb (length b) (f .size) h)
+
+    end-other : (b out : List ℕ) → (length b ≡ f .size → ⊥) → endNumber b out ≡ 1
+    unfolding endNumber endedNumber lentFits
+    end-other b out h = ap (λ (r : Bool). cond (r && eqb (length out) room) (code (f .into b)) 1) (ne-eqb (length b) (f .size) h)
+
+    room-other : (b out : List ℕ) → (length out ≡ room → ⊥) → endNumber b out ≡ 1
+    unfolding endNumber endedNumber
+    room-other b out h =
+        ap (λ (r : Bool). cond (lentFits f b && r) (code (f .into b)) 1) (ne-eqb (length out) room h)
+        ∙ ap (λ (r : Bool). cond r (code (f .into b)) 1) (and-false (lentFits f b))
+
     lent-any-way : {R : Type 0} (begun : S) (ended : S → R) (answer : List ℕ → R) (number : List ℕ → ℕ) (bytes : List ℕ → List ℕ) → P begun
         → CutAnyWay begun (λ s m. partNumber (w .total s) m) (after w) ended answer
         → ((ms : List (List ℕ)) → code (afterAll (after w) begun ms) ≡ number (fitting 0 ms))
         → ((ms : List (List ℕ)) → octets (afterAll (after w) begun ms) ≡ bytes (fitting 0 ms))
-        → LentAnyWay (f .size) (begunAfter f 0 begun) (fedNumber f w) (fedAfter f w) endNumber endAfter room number bytes
+        → LentAnyWay (f .size) (begunNumber f 0) (begunAfter f 0 begun) (fedNumber f w) (fedAfter f w) endNumber endAfter room number bytes
     lent-any-way begun ended answer number bytes p c ec eb =
         let states : (b : List ℕ) (ms : List (List ℕ)) → length b ≡ f .size → Strings ms
         → afterAll (fedAfter f w) (begunAfter f 0 begun b) ms ≡ f .out (afterAll (after w) begun ms) =
@@ -139,18 +170,14 @@ module _ {S A : Type 0} (f : Form S) (w : Way S A) (P : S → Type 0) (again : (
                     ∙ ap₂ (λ (n : ℕ) (x : List ℕ). cond (eqb n 0) x out) (ec ms) (eb ms),
               );
           same = λ b ms ns h o q e. states b ms h o ∙ ap (f .out) (c .same ms ns e) ∙ sym (states b ns h q);
+          begins = begins-by f 0;
+          other-part = part-other;
+          other-end = end-other;
+          other-room = room-other;
+          unbegun = begun-stays f 0 begun;
           unchanged = fed-stays;
           unwritten = end-stays;
         }
-
--- a refused beginning leaves every lent byte
-pub begun-stays : {S : Type 0} (f : Form S) (c : ℕ) (s : S) (b : List ℕ) → (begunNumber f c b ≡ 0 → ⊥) → begunAfter f c s b ≡ b
-unfolding begunNumber begunAfter
-begun-stays {S} f c s b h = by (lentFits f b) h
-  where
-    by : (r : Bool) → (cond r c 1 ≡ 0 → ⊥) → cond (r && eqb c 0) (f .out s) b ≡ b
-    by true h = ap (λ (e : Bool). cond e (f .out s) b) (ne-eqb c 0 h)
-    by false h = refl
 
 -- what a part that fits keeps, feeding keeps
 after-keeps : {S A : Type 0} (w : Way S A) (P : S → Type 0) (s : S) (m : List ℕ) → P s → (w .total s + length m < 2 ^ 32 → P (counted w s m)) → P (after w s m)
@@ -208,7 +235,7 @@ fed-good : (s : State) (m : List ℕ) → Good s → Octets m → Good (after ha
 fed-good s m k o = after-keeps hashWay Good s m k (counted-good s m k o)
 
 -- Wish 5 over lent bytes, for the hash
-pub hash-lent : LentAnyWay 261 (begunAfter hashForm 0 begun) (fedNumber hashForm hashWay) (fedAfter hashForm hashWay) (λ b out. endedNumber hashForm 32 b out 0)
+pub hash-lent : LentAnyWay 261 (begunNumber hashForm 0) (begunAfter hashForm 0 begun) (fedNumber hashForm hashWay) (fedAfter hashForm hashWay) (λ b out. endedNumber hashForm 32 b out 0)
     (λ b out. endedAfter hashForm 32 b out 0 (ended (hashIn b))) 32 (λ m. 0) hash256
 unfolding fed endNumber endAfter
 hash-lent =
@@ -251,7 +278,7 @@ unfolding macBegun keyFits
 mac-begun key h = simp (eq-eqb (length key) 32 h)
 
 mac-under : (key : List ℕ) → Octets key → length key ≡ 32
-    → LentAnyWay 522 (begunAfter macForm 0 (started key)) (fedNumber macForm macWay) (fedAfter macForm macWay) (λ b out. endedNumber macForm 32 b out 0)
+    → LentAnyWay 522 (begunNumber macForm 0) (begunAfter macForm 0 (started key)) (fedNumber macForm macWay) (fedAfter macForm macWay) (λ b out. endedNumber macForm 32 b out 0)
     (λ b out. endedAfter macForm 32 b out 0 (macEnded (macIn b))) 32 (λ m. 0) (hmac key)
 unfolding macFed endNumber endAfter
 mac-under key o h =
@@ -261,12 +288,12 @@ mac-under key o h =
 
 -- Wish 5 over lent bytes, for HMAC
 pub mac-lent : (key : List ℕ) → Octets key → length key ≡ 32
-    → LentAnyWay 522 (begunAfter macForm (macBegun key .code) (macBegun key .state)) (fedNumber macForm macWay) (fedAfter macForm macWay)
+    → LentAnyWay 522 (begunNumber macForm (macBegun key .code)) (begunAfter macForm (macBegun key .code) (macBegun key .state)) (fedNumber macForm macWay) (fedAfter macForm macWay)
     (λ b out. endedNumber macForm 32 b out 0) (λ b out. endedAfter macForm 32 b out 0 (macEnded (macIn b))) 32 (λ m. 0) (hmac key)
 mac-lent key o h =
     subst
     (λ (r : MacFed).
-    LentAnyWay 522 (begunAfter macForm (r .code) (r .state)) (fedNumber macForm macWay) (fedAfter macForm macWay) (λ b out. endedNumber macForm 32 b out 0)
+    LentAnyWay 522 (begunNumber macForm (r .code)) (begunAfter macForm (r .code) (r .state)) (fedNumber macForm macWay) (fedAfter macForm macWay) (λ b out. endedNumber macForm 32 b out 0)
     (λ b out. endedAfter macForm 32 b out 0 (macEnded (macIn b))) 32 (λ m. 0) (hmac key))
     (sym (mac-begun key h)) (mac-under key o h)
 
@@ -303,7 +330,7 @@ unfolding codeBegun keyFits
 code-begun key h = simp (eq-eqb (length key) 32 h)
 
 code-under : (key : List ℕ) → Octets key → length key ≡ 32
-    → LentAnyWay 53 (begunAfter codeForm 0 (codingBegun (subkeys 8 key))) (fedNumber codeForm codeWay) (fedAfter codeForm codeWay)
+    → LentAnyWay 53 (begunNumber codeForm 0) (begunAfter codeForm 0 (codingBegun (subkeys 8 key))) (fedNumber codeForm codeWay) (fedAfter codeForm codeWay)
     (λ b out. endedNumber codeForm 4 b out (codeEnded (codeIn b) .code))
     (λ b out. endedAfter codeForm 4 b out (codeEnded (codeIn b) .code) (codeEnded (codeIn b) .bytes)) 4 (λ m. coded key m .code) (λ m. coded key m .bytes)
 unfolding codeFed endNumber endAfter
@@ -317,13 +344,26 @@ code-under key o h =
 
 -- Wish 5 over lent bytes, for the code
 pub code-lent : (key : List ℕ) → Octets key → length key ≡ 32
-    → LentAnyWay 53 (begunAfter codeForm (codeBegun key .code) (codeBegun key .state)) (fedNumber codeForm codeWay) (fedAfter codeForm codeWay)
+    → LentAnyWay 53 (begunNumber codeForm (codeBegun key .code)) (begunAfter codeForm (codeBegun key .code) (codeBegun key .state)) (fedNumber codeForm codeWay) (fedAfter codeForm codeWay)
     (λ b out. endedNumber codeForm 4 b out (codeEnded (codeIn b) .code))
     (λ b out. endedAfter codeForm 4 b out (codeEnded (codeIn b) .code) (codeEnded (codeIn b) .bytes)) 4 (λ m. coded key m .code) (λ m. coded key m .bytes)
 code-lent key o h =
     subst
     (λ (r : CodeFed).
-    LentAnyWay 53 (begunAfter codeForm (r .code) (r .state)) (fedNumber codeForm codeWay) (fedAfter codeForm codeWay)
+    LentAnyWay 53 (begunNumber codeForm (r .code)) (begunAfter codeForm (r .code) (r .state)) (fedNumber codeForm codeWay) (fedAfter codeForm codeWay)
     (λ b out. endedNumber codeForm 4 b out (codeEnded (codeIn b) .code))
     (λ b out. endedAfter codeForm 4 b out (codeEnded (codeIn b) .code) (codeEnded (codeIn b) .bytes)) 4 (λ m. coded key m .code) (λ m. coded key m .bytes))
     (sym (code-begun key h)) (code-under key o h)
+
+-- a key of another length is 1 at the beginning, and nothing is written
+pub mac-unbegun : (key b : List ℕ) → (length key ≡ 32 → ⊥) → begunNumber macForm (macBegun key .code) b ≡ 1
+mac-unbegun key b h =
+    begins-by macForm (macBegun key .code) b
+    ∙ ap (λ (c : ℕ). cond (eqb (length b) 522) c 1) (mac-begins key ∙ ap (λ (r : Bool). cond r 0 1) (ne-eqb (length key) 32 h))
+    ∙ either (eqb (length b) 522)
+
+pub code-unbegun : (key b : List ℕ) → (length key ≡ 32 → ⊥) → begunNumber codeForm (codeBegun key .code) b ≡ 1
+code-unbegun key b h =
+    begins-by codeForm (codeBegun key .code) b
+    ∙ ap (λ (c : ℕ). cond (eqb (length b) 53) c 1) (code-begins key ∙ ap (λ (r : Bool). cond r 0 1) (ne-eqb (length key) 32 h))
+    ∙ either (eqb (length b) 53)

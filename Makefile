@@ -4,7 +4,7 @@
 help:
 	@echo 'make run     proves and builds the clerk'"'"'s program and runs a day at the desk through it: 5 minutes from nothing'
 	@echo 'make host    proves the library for C and builds the desk'"'"'s program box over it: 4 minutes from nothing'
-	@echo 'make test    the whole gate, from nothing: 21 to 28 minutes'
+	@echo 'make test    the whole gate, from nothing: 21 to 30 minutes'
 	@echo 'make bench   times the proved code beside libgcrypt and nettle (docs/SPEED.md)'
 	@echo 'make clean   removes what they built'
 	@echo 'README.md says what it is, CONTRIBUTING.md how to change it. Times are of two x86-64 cores.'

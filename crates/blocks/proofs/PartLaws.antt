@@ -142,7 +142,7 @@ module _ {S A : Type 0} (w : Way S A) (l : Keeps w) where
 
   after-fits : (s : S) (m : List ℕ) → fits (w .total s) (length m) ≡ true → after w s m ≡ counted w s m
   unfolding after
-  after-fits s m h = ap (λ (b : Bool). cond b (counted w s m) s) h
+  after-fits s m h = simp h
 
   after-not : (s : S) (m : List ℕ) → fits (w .total s) (length m) ≡ false → after w s m ≡ s
   unfolding after

@@ -21,7 +21,10 @@
     ROW(12, BOX_PIN_DIGITS, "the PIN is not 4 to 12 digits") \
     ROW(13, BOX_UNREADABLE, "the line cannot be read") \
     ROW(14, BOX_WRONG_PIN, "the PIN is not the kept one") \
-    ROW(15, BOX_NO_TRIES, "no tries are left for a PIN")
+    ROW(15, BOX_NO_TRIES, "no tries are left for a PIN") \
+    ROW(16, BOX_BAD_OBJECT, "an object is out of place, of a wrong length or past its holder's end, or there is none") \
+    ROW(17, BOX_TOO_DEEP, "an object stands deeper than four levels") \
+    ROW(18, BOX_TOO_MANY, "there are more than 32 objects")
 
 #define BOX_NAMED(number, name, words) name = number,
 enum box_refusal {

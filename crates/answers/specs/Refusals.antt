@@ -1,7 +1,7 @@
 -- Numbered refusals (01's table, and those of the wishes): why a call is refused, "given exactly when", and its number. Assumes nothing.
 use Prim.Native.Nat.{ℕ}
 use Rattle.answers.specs.declared.Refusal.{Refusal}
-use Rattle.answers.specs.declared.Refusal.the-variants.{Input, CardNumber, NoRoom, ShapeWrong, NotListed, PhaseWrong, CounterFull, CodeDiffers, PinFormat, SpoiltClosed, ArpcDiffers, PinDigits, Unreadable, WrongPin, NoTries}
+use Rattle.answers.specs.declared.Refusal.the-variants.{Input, CardNumber, NoRoom, ShapeWrong, NotListed, PhaseWrong, CounterFull, CodeDiffers, PinFormat, SpoiltClosed, ArpcDiffers, PinDigits, Unreadable, WrongPin, NoTries, BadObject, TooDeep, TooMany}
 
 abbrev pub number : Refusal → ℕ
 -- "a lent input or number that no other row names has not the length or range stated"
@@ -34,3 +34,9 @@ number Unreadable = 13
 number WrongPin = 14
 -- "15 no tries left" (Wish 4)
 number NoTries = 15
+-- "16 bad object (tag out of place, bad length form, past its holder's end, 9f18 not of 4 bytes, empty input)" (Wish 6)
+number BadObject = 16
+-- "17 deeper than four" (Wish 6)
+number TooDeep = 17
+-- "18 more than 32 objects" (Wish 6)
+number TooMany = 18

@@ -20,6 +20,9 @@ pub enum Refusal {
     Unreadable,
     WrongPin,
     NoTries,
+    BadObject,
+    TooDeep,
+    TooMany,
 }
 
 impl Refusal {
@@ -53,6 +56,12 @@ impl Refusal {
 
     pub const NO_TRIES: u8 = 15;
 
+    pub const BAD_OBJECT: u8 = 16;
+
+    pub const TOO_DEEP: u8 = 17;
+
+    pub const TOO_MANY: u8 = 18;
+
     // Its number.
     pub fn number(self) -> u8
         ensures { λ r. ⌜ r ≡ numberOf self ⌝ }
@@ -73,6 +82,9 @@ impl Refusal {
             Refusal::Unreadable => Refusal::UNREADABLE,
             Refusal::WrongPin => Refusal::WRONG_PIN,
             Refusal::NoTries => Refusal::NO_TRIES,
+            Refusal::BadObject => Refusal::BAD_OBJECT,
+            Refusal::TooDeep => Refusal::TOO_DEEP,
+            Refusal::TooMany => Refusal::TOO_MANY,
         }
     }
 }

@@ -19,7 +19,8 @@ use Rattle.shapes.specs.Answers.{answer, answerUnder, shaped, shapedUnder}
 use Rattle.shapes.proofs.LengthLaws.{Form, short, long, form, Says, one, two, none, says, says-short, says-long, field-short, place-short, place-long}
 use Rattle.shapes.proofs.ShapeLaws.{shape-good}
 use Rattle.message.specs.Code.{codeFor, message, messageUnder, given, codeFits, codeFitsUnder}
-use Rattle.message.specs.Answers.{openNumberUnder, opened, openedUnder, laid, wrapNumber, wrapNumberUnder, wrappedUnder, Written}
+use Rattle.octets.specs.Laid.{laid}
+use Rattle.message.specs.Answers.{openNumberUnder, opened, openedUnder, wrapNumber, wrapNumberUnder, wrappedUnder, Written}
 use Rattle.transaction.specs.Transaction.{isOpen}
 use Rattle.card.specs.declared.Card.{Card}
 use Rattle.card.specs.declared.Reply.{Reply}

@@ -1,2 +1,3 @@
 pub mod GiveLaws
 pub mod OpenLaws
+pub mod TemplateLaws

@@ -17,6 +17,9 @@ use Rattle.cryptogram.specs.declared.KindRead.the-variants.{Known, Unknown}
 use Rattle.cryptogram.specs.Answers.{cryptogramAnswer}
 use Rattle.shapes.specs.declared.Opened.{Opened}
 use Rattle.shapes.specs.Answers.{openedNumber, openedValues}
+use Rattle.octets.specs.Numbers.{beOctets}
+use Rattle.templates.specs.declared.Read.{Read}
+use Rattle.templates.specs.Lent.{laidObjects}
 
 -- the number returned: 1 for a lent slice that is not n bytes long, else the answer's own
 unfoldable pub numberOf : ℕ → ℕ → List ℕ → ℕ
@@ -57,3 +60,14 @@ byNumber key Unknown atc d = noBlock (number Input)
 -- a message opened: its tag, and the place and length of its data
 abbrev pub GivenOpened : Opened → List ℕ → ℕ → List ℕ → Type 0
 GivenOpened o lent r after = Given 3 (openedNumber o) (openedValues o) lent r after
+
+-- script templates: the objects, ten bytes each, zeros after the last
+abbrev pub GivenObjects : Read → List ℕ → ℕ → List ℕ → Type 0
+GivenObjects a lent r after = Given 320 (a .code) (laidObjects (a .objects)) lent r after
+
+-- where the object at fault begins; 1 where none is
+unfoldable pub faultNumber : Read → ℕ
+faultNumber a = cond (eqb (a .code) 0) (number Input) 0
+
+abbrev pub GivenFault : Read → List ℕ → ℕ → List ℕ → Type 0
+GivenFault a lent r after = Given 4 (faultNumber a) (beOctets 4 (a .at)) lent r after

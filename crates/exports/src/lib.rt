@@ -8,8 +8,9 @@ ghost use Rattle.keys.specs.Answers.{cardKey, cardKeyPacked, sessionKey, script
 ghost use Rattle.cards.specs.Cards.{cardsNumber, cardsAfter};
 ghost use Rattle.pin.specs.Answers.{writePin, readPin};
 ghost use Rattle.cryptogram.specs.Answers.{kindOf, arpcAnswer};
-ghost use Rattle.exports.specs.Lent.{Given, GivenKey, GivenBlock, GivenCode, GivenIdn, GivenRead, GivenOpened, byNumber};
+ghost use Rattle.exports.specs.Lent.{Given, GivenKey, GivenBlock, GivenCode, GivenIdn, GivenRead, GivenOpened, GivenObjects, GivenFault, byNumber};
 ghost use Rattle.message.specs.Answers.{opened, wrapped, Wrote};
+ghost use Rattle.templates.specs.Reading.{reading};
 ghost use Rattle.hash.specs.States.{hashWay, begun, ended};
 ghost use Rattle.derive.specs.Macing.{macWay, macBegun, macEnded};
 ghost use Rattle.cipher.specs.Coding.{codeWay, codeBegun, codeEnded};
@@ -241,6 +242,30 @@ pub extern "C" fn box_open(key: &[u8], header: &[u8], message: &[u8], found: &mu
         }
         Opened::Refused(n) => give(n, &[0, 0, 0], found),
     }
+}
+
+// The objects of script templates, ten bytes each and zeros after the last. 1: a length; 16, 17, 18: the first object at fault.
+#[no_mangle]
+pub extern "C" fn box_read_templates(input: &[u8], objects: &mut [u8]) -> u8
+    ensures { λ r. ⌜ GivenObjects (reading (now (input .entry))) (now (objects .entry)) r (now (objects .exit)) ⌝ }
+{
+    let r = templates::read_templates(input);
+    let all = r.objects;
+    let bytes = templates::lay_objects(all);
+    give(r.code, &bytes, objects)
+}
+
+// Where the first object at fault begins. 1: a length, or nothing is at fault.
+#[no_mangle]
+pub extern "C" fn box_templates_fault(input: &[u8], place: &mut [u8]) -> u8
+    ensures { λ r. ⌜ GivenFault (reading (now (input .entry))) (now (place .entry)) r (now (place .exit)) ⌝ }
+{
+    let r = templates::read_templates(input);
+    let bytes = templates::lay_place(r.at);
+    if r.code == 0 {
+        return give(Refusal::INPUT, &bytes, place);
+    }
+    give(0, &bytes, place)
 }
 
 // A hash of no bytes so far, in a lent state of 261 bytes. 1: its length.

@@ -1,4 +1,3 @@
-pub mod LaidLaws
 pub mod WrapLaws
 pub mod Return
 pub mod CodeLaws

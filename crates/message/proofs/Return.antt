@@ -16,8 +16,9 @@ use Rattle.shapes.specs.Answers.{answer, answerUnder}
 use Rattle.shapes.proofs.ShapeLaws.{length-body, length-read, tag-read, data-read, body-read, code-read, shape-parts}
 use Rattle.cipher.proofs.CodeLaws.{length-codeOf}
 use Rattle.message.specs.Code.{codeFor, message, messageUnder, given, codeFits, codeFitsUnder}
-use Rattle.message.specs.Answers.{openNumberUnder, opened, openedUnder, laid, wrapNumber, Written, wrapped, wrappedUnder}
-use Rattle.message.proofs.LaidLaws.{laid-there}
+use Rattle.octets.specs.Laid.{laid}
+use Rattle.message.specs.Answers.{openNumberUnder, opened, openedUnder, wrapNumber, Written, wrapped, wrappedUnder}
+use Rattle.octets.proofs.LaidLaws.{laid-there}
 use Rattle.message.proofs.WrapLaws.{accepted, wrap-fits, wrap-accepted}
 
 length-code : (key header m : List ℕ) → length (codeFor key header m) ≡ 4

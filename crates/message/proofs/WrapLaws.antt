@@ -17,8 +17,9 @@ use Rattle.shapes.specs.Shape.{placeOf, tagFits, codeHead, body, bodyUnder, bod
 use Rattle.shapes.proofs.LengthLaws.{field-short, field-long, place-short, place-long, largest-small, place-small, length-head}
 use Rattle.shapes.proofs.ShapeLaws.{length-body}
 use Rattle.message.specs.Code.{codeFor, message, messageUnder, given}
-use Rattle.message.specs.Answers.{laid, wrapNumber, wrapNumberUnder, wrapped, wrappedUnder, Written, Wrote}
-use Rattle.message.proofs.LaidLaws.{length-laid, lent-length, laid-there, laid-laid, laid-lent}
+use Rattle.octets.specs.Laid.{laid}
+use Rattle.message.specs.Answers.{wrapNumber, wrapNumberUnder, wrapped, wrappedUnder, Written, Wrote}
+use Rattle.octets.proofs.LaidLaws.{length-laid, lent-length, laid-there, laid-laid, laid-lent}
 
 -- the stores of a tag and a length field
 pub tag-short : (b : List ℕ) (t n : ℕ) → n ≤ largestShort → placeOf n ≤ length b → set (set b 0 t) 1 n ≡ laid b 0 (t ∷ lengthField n)

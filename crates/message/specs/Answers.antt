@@ -2,11 +2,12 @@
 use Prim.Native.Nat.{ℕ, _+_}
 use mathlib.Core.Path.{_≡_}
 use mathlib.Core.Bool.{_&&_, cond}
-use mathlib.Core.List.{List, _++_}
+use mathlib.Core.List.{List}
 use lib.Dec.{leb, eqb}
-use lib.ListN.{length, take, drop}
+use lib.ListN.{length}
 use Rattle.answers.specs.declared.Refusal.the-variants.{Input, NoRoom, ShapeWrong, CodeDiffers}
 use Rattle.answers.specs.Refusals.{number}
+use Rattle.octets.specs.Laid.{laid}
 use Rattle.shapes.specs.declared.Opened.{Opened}
 use Rattle.shapes.specs.Rules.{Rules, present}
 use Rattle.shapes.specs.Shape.{tagFits, sizeOfUnder, shapeUnder}
@@ -26,10 +27,6 @@ openedUnder k key header m = answerUnder k (openNumberUnder k key header m) m
 
 abbrev pub opened : List ℕ → List ℕ → List ℕ → Opened
 opened = openedUnder present
-
--- string s laid over buffer b from a place on
-unfoldable pub laid : List ℕ → ℕ → List ℕ → List ℕ
-laid b place s = take place b ++ s ++ drop (place + length s) b
 
 -- wrapping: 1 (key, header, tag, L), 3 (the message does not fit from the place on)
 unfoldable pub wrapNumberUnder : Rules → List ℕ → List ℕ → ℕ → ℕ → ℕ → ℕ → ℕ

@@ -13,7 +13,8 @@ ghost use Rattle.shapes.specs.Length.{largest, lengthField};
 ghost use Rattle.shapes.specs.Shape.{codeHead, placeOf, bodySize};
 ghost use Rattle.shapes.specs.Answers.{Tells};
 ghost use Rattle.message.specs.Code.{X, Y, codeFor, given as areGiven, codeFits};
-ghost use Rattle.message.specs.Answers.{openNumber, opened, laid, wrapNumber, wrapped, Wrote};
+ghost use Rattle.octets.specs.Laid.{laid};
+ghost use Rattle.message.specs.Answers.{openNumber, opened, wrapNumber, wrapped, Wrote};
 
 // Whether key and header have their lengths.
 fn given(key: &[u8], header: &[u8]) -> bool

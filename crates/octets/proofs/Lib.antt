@@ -5,3 +5,4 @@ pub mod Xor
 pub mod Table
 pub mod Parts
 pub mod Arms
+pub mod LaidLaws

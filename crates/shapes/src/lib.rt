@@ -30,7 +30,7 @@ pub const LARGEST_SHORT: usize = 127;
 pub const LONG_MARK: usize = 0x81;
 
 // The byte of a message at a place; 0 past its end.
-fn byte_at(message: &[u8], at: usize) -> usize
+pub fn byte_at(message: &[u8], at: usize) -> usize
     ensures { λ r. ⌜ r ≡ getD (now (message .entry)) at 0 ⌝ }
 {
     if at >= message.len() {
@@ -40,7 +40,7 @@ fn byte_at(message: &[u8], at: usize) -> usize
 }
 
 // What the length field of a message says; more than the largest where it has another form.
-fn length_of(message: &[u8]) -> usize
+pub fn length_of(message: &[u8]) -> usize
     ensures { λ r. ⌜ r ≡ lengthOf (now (message .entry)) ⌝ }
 {
     let first = byte_at(message, 1);

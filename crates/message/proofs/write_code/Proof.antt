@@ -8,7 +8,7 @@ use denote.Ref.{now}
 use Rattle.shapes.specs.Shape.{bodySize, bodySizeUnder}
 use Rattle.shapes.proofs.LengthLaws.{largest-small, place-small}
 use Rattle.message.specs.Code.{codeFor}
-use Rattle.message.specs.Answers.{laid}
+use Rattle.octets.specs.Laid.{laid}
 use Rattle.message.proofs.WrapLaws.{code-stored}
 use borrow.Author.Needs.{needs}
 use Rattle.message.proofs.write_code.Statement.{statement}

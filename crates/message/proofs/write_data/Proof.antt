@@ -7,7 +7,7 @@ use borrow.Author.Needs.{needs}
 use lib.ListN.{length, set, getD, length-set}
 use lib.Seq.{paste, paste-zero, paste-suc}
 use Rattle.shapes.specs.Shape.{codeHead}
-use Rattle.message.specs.Answers.{laid}
+use Rattle.octets.specs.Laid.{laid}
 use Rattle.message.proofs.WrapLaws.{data-stored}
 use Rattle.message.proofs.write_data.Statement.{statement}
 use Rattle.message.proofs.write_data.Tie as tie

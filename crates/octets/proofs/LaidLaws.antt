@@ -6,7 +6,7 @@ use native.Mathlib.Omega.{arith}
 use lib.ListN.{length, take, drop, length-append, length-drop, drop-of-length-le}
 use lib.Seq.{length-take-le, take-all, take-at, drop-at, take-add, drop-drop}
 use borrow.Rule.Slice.PartMut.{putMid}
-use Rattle.message.specs.Answers.{laid}
+use Rattle.octets.specs.Laid.{laid}
 
 module _ (b : List ℕ) (p : ℕ) (s : List ℕ) (h : p + length s ≤ length b) where
   head-length : length (take p b ++ s) ≡ p + length s

@@ -1,0 +1,9 @@
+pub mod LeafLaws
+pub mod HeadLaws
+pub mod ReadLaws
+pub mod TreeLaws
+pub mod ParseLaws
+pub mod DerivedLaws
+pub mod StatementLaws
+pub mod LentLaws
+pub mod Examples

@@ -1,0 +1,4 @@
+pub mod Grammar
+pub mod Reading
+pub mod Lent
+pub mod Statement

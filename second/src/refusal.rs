@@ -33,6 +33,12 @@ pub enum Refusal {
     WrongPin = 14,
     /// No tries are left for a PIN.
     NoTries = 15,
+    /// An object is out of place, of a wrong length or past its holder's end, or there is none.
+    BadObject = 16,
+    /// An object stands deeper than four levels.
+    TooDeep = 17,
+    /// There are more than 32 objects.
+    TooMany = 18,
 }
 
 impl Refusal {

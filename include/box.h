@@ -1,4 +1,4 @@
-/* The box: keys, codes, hashes, PIN blocks, cryptograms and script messages of the Mir scheme, for C and C++.
+/* The box: keys, codes, hashes, PIN blocks, cryptograms, script messages and script templates of the Mir scheme, for C and C++.
  *
  * Every function returns the number of its refusal, and 0 where it accepts; refusals.h has the numbers with their names and words (box_words).
  * Where several would hold, the first in the order that the function's comment gives is returned. A digit above 9 is no digit: 2, and 12.
@@ -102,6 +102,32 @@ uint8_t box_wrap(const uint8_t *key, size_t key_length, const uint8_t *header, s
  * that of box_wrap is a wrong shape. Refusals 1, 4, 8. */
 uint8_t box_open(const uint8_t *key, size_t key_length, const uint8_t *header, size_t header_length, const uint8_t *message,
                  size_t message_length, uint8_t *found, size_t found_length);
+
+/* Script templates, in which hosts send scripts: 71 and 72 hold an identifier (9f18, 4 bytes) at most once and first, then any number of commands (86);
+ * e1 holds any number of 71, 72 and e1, and so does the whole, but at least one. Templates and 86 may be empty. A length is one byte up to 127 and
+ * two from 128 to 255, 81 first; no other form is read. There are four levels, counted from 1 at the top, and 32 objects at most.
+ *
+ * An object is 10 bytes, each number highest byte first: its tag (2: 0071, 0072, 00e1, 0086 or 9f18), its level (2), the length of its data (2) and their
+ * place (4); the data of a template are the objects in it, which follow it. */
+enum { BOX_TEMPLATE_OBJECT = 10, BOX_TEMPLATE_OBJECTS = 320, BOX_TEMPLATE_PLACE = 4, BOX_TEMPLATE_SIZE = 4 };
+
+/* The objects of an input in order, their places counted from its start. objects: BOX_TEMPLATE_OBJECTS, of which those after the last object are zeros:
+ * a tag never is. Refusals 1 (the length of objects), and then the refusal of the first object at fault in byte order, by its first byte: 16 (a tag out of
+ * place, a length in another form, an end past its holder's, a 9f18 of another length than 4; or the input is empty), 17, 18. */
+uint8_t box_read_templates(const uint8_t *input, size_t input_length, uint8_t *objects, size_t objects_length);
+
+/* Where the first object at fault begins, if box_read_templates refuses the input with 16, 17 or 18; 0 for an empty one. place: BOX_TEMPLATE_PLACE, the place
+ * from the start of the input, highest byte first. Refusal 1 (nothing is at fault, or the length of place). */
+uint8_t box_templates_fault(const uint8_t *input, size_t input_length, uint8_t *place, size_t place_length);
+
+/* The bytes of objects, any number of 10 bytes, written into the buffer from the place on; every other byte of the buffer stays. The data of 86 and
+ * 9f18 lie in the source; of a template only tag and level are looked at, and its length is computed. size: BOX_TEMPLATE_SIZE, the number of bytes
+ * written, highest byte first. What box_read_templates gave, with its input as the source, is written as the same bytes.
+ * Refusals 1 (objects are not whole ones, the length of size, or data of any 86 or 9f18 outside the source or above 255 bytes), then of the first object at
+ * fault in order 16 (its tag; its level, 0 or deeper than the templates open at that point; a 9f18 of another length than 4; a template that would hold
+ * more than 255 bytes, counting all that follows it at deeper levels, whatever it is; or there are no objects), 17, 18, and at last 3. */
+uint8_t box_write_templates(const uint8_t *objects, size_t objects_length, const uint8_t *source, size_t source_length, uint8_t *buffer,
+                            size_t buffer_length, size_t place, uint8_t *size, size_t size_length);
 
 /* A message that comes in parts: the hash (GOST R 34.11-2012 with 256 bits), HMAC with it under a key of 32 bytes, and the code of box_code, each begun,
  * fed with parts of any length, also none, and ended. Cut any way, the answer is that of the whole.

@@ -11,7 +11,7 @@ use crate::hash::hash;
 use crate::hmac::hmac;
 use crate::keys::{card_key, card_key_packed, counter_key, idn, script_key, session_key};
 use crate::message::{coded, open, wrap, wrapped, CLEAR, ENCIPHERED, LARGEST, LARGEST_SHORT};
-use crate::octets::{exact, from_hex, to_hex};
+use crate::octets::{bytes_of, exact, word_of};
 use crate::pin;
 use crate::random::Random;
 use crate::refusal::{number_of, Refusal};
@@ -171,12 +171,8 @@ fn outcome(name: &str, arguments: &[Argument]) -> (u8, Vec<u8>) {
     }
 }
 
-fn word_of(bytes: Option<&[u8]>) -> String {
-    match bytes {
-        None => "null".to_string(),
-        Some([]) => "-".to_string(),
-        Some(bytes) => to_hex(bytes),
-    }
+fn pointed_word(bytes: Option<&[u8]>) -> String {
+    bytes.map_or_else(|| "null".to_string(), word_of)
 }
 
 /// The line of a call.
@@ -185,9 +181,9 @@ fn line(function: &Function, arguments: &[Argument]) -> String {
     let words: Vec<String> = arguments
         .iter()
         .map(|argument| match argument {
-            Text(bytes) => word_of(bytes.as_deref()),
+            Text(bytes) => pointed_word(bytes.as_deref()),
             Number(number) => format!("{number:x}"),
-            Lent(before) => format!("{} {}", word_of(before.as_deref()), word_of(Some(&after))),
+            Lent(before) => format!("{} {}", pointed_word(before.as_deref()), word_of(&after)),
         })
         .collect();
     format!("{} {number} {}", function.name, words.join(" "))
@@ -214,8 +210,7 @@ fn read<'a>(letter: char, words: &mut impl Iterator<Item = &'a str>) -> Option<A
     let word = words.next()?;
     let bytes = |word: &str| match word {
         "null" => Some(None),
-        "-" => Some(Some(vec![])),
-        _ => from_hex(word.as_bytes()).map(Some),
+        _ => bytes_of(word).map(Some),
     };
     match letter {
         's' => Some(Text(bytes(word)?)),
@@ -474,6 +469,7 @@ impl Caller {
 #[cfg(test)]
 mod tests {
     use super::*;
+    use crate::octets::from_hex;
 
     #[test]
     fn lines_are_read_as_written() {

@@ -20,6 +20,12 @@ mod random;
 mod refusal;
 mod slips;
 mod tally;
+mod template_cases;
+mod template_compare;
+mod template_generate;
+mod template_slips;
+mod template_tally;
+mod templates;
 mod trace;
 mod vectors;
 
@@ -37,7 +43,13 @@ const USAGE: &str = "usage: second trace             a clerk's trace, standard i
                                 a run that takes more than DEADLINE seconds (60) is ended
        second slip NAME         a clerk's trace on a wrong card, to try the comparison: NAMES
        second calls SEED N      N random calls of the library for C, with what must come of each
-       second check             checks such lines, ours or a judge's, on standard input";
+       second check             checks such lines, ours or a judge's, on standard input
+       second template-cases SEED N
+                                N random calls of the library's functions for script templates
+       second template-answers [SLIP]
+                                answers such lines, standard input to standard output; with a slip wrongly: TEMPLATE-SLIPS
+       second templates SEED N COMMAND...
+                                N such calls, answered by us and by another program";
 
 fn main() -> ExitCode {
     let words: Vec<String> = std::env::args().skip(1).collect();
@@ -51,9 +63,16 @@ fn main() -> ExitCode {
         ["slip", name] => run_slip(name),
         ["calls", seed, count] => write_calls(number(seed), number(count)),
         ["check"] => check_calls(),
+        ["template-cases", seed, count] => write_template_cases(number(seed), number(count)),
+        ["template-answers"] => answer_template_cases(None),
+        ["template-answers", name] => answer_template_cases(Some(name)),
+        ["templates", seed, count, ref command @ ..] if !command.is_empty() => {
+            template_compare::compare(number(seed), number(count), command).map(|agree| if agree { ExitCode::SUCCESS } else { ExitCode::FAILURE })
+        }
         _ => {
             let slips: Vec<&str> = slips::SLIPS.iter().map(|(name, _)| *name).collect();
-            eprintln!("{}", USAGE.replace("NAMES", &slips.join(", ")));
+            let template_slips: Vec<&str> = template_slips::SLIPS.iter().map(|(name, _)| *name).collect();
+            eprintln!("{}", USAGE.replace("TEMPLATE-SLIPS", &template_slips.join(", ")).replace("NAMES", &slips.join(", ")));
             return ExitCode::from(2);
         }
     };
@@ -72,14 +91,16 @@ fn run_trace() -> io::Result<ExitCode> {
 fn run_slip(name: &str) -> io::Result<ExitCode> {
     let slip = match slips::SLIPS.iter().find(|(known, _)| *known == name) {
         Some((_, slip)) => slip,
-        None => {
-            eprintln!("second: no such slip: {name}");
-            return Ok(ExitCode::from(2));
-        }
+        None => return Ok(no_slip(name)),
     };
     let mut clerk = slips::Slipping::new(*slip);
     trace::run(slips::input(*slip, io::stdin().lock()), io::stdout().lock(), |line| clerk.answer(line))?;
     Ok(ExitCode::SUCCESS)
+}
+
+fn no_slip(name: &str) -> ExitCode {
+    eprintln!("second: no such slip: {name}");
+    ExitCode::from(2)
 }
 
 fn run_compare(from: u64, count: u64, command: &[&str]) -> io::Result<ExitCode> {
@@ -132,4 +153,29 @@ fn check_calls() -> io::Result<ExitCode> {
 
 fn count_answers(from: u64, to: u64) -> io::Result<ExitCode> {
     Ok(if compare::tally(from, (to + 1).saturating_sub(from)).print() { ExitCode::SUCCESS } else { ExitCode::FAILURE })
+}
+
+fn write_template_cases(seed: u64, count: u64) -> io::Result<ExitCode> {
+    let mut output = io::BufWriter::new(io::stdout().lock());
+    let mut cases = template_generate::Cases::new(seed);
+    for _ in 0..count {
+        writeln!(output, "{}", cases.case().line())?;
+    }
+    output.flush()?;
+    Ok(ExitCode::SUCCESS)
+}
+
+fn answer_template_cases(name: Option<&str>) -> io::Result<ExitCode> {
+    let slip = name.and_then(template_slips::slip_of);
+    if let (Some(name), None) = (name, slip) {
+        return Ok(no_slip(name));
+    }
+    let mut output = io::BufWriter::new(io::stdout().lock());
+    for line in io::stdin().lock().lines() {
+        let line = line?;
+        let answer = template_cases::Case::of_line(&line).map_or_else(|| format!("cannot be read: {line}"), |case| case.answer(slip));
+        writeln!(output, "{answer}")?;
+    }
+    output.flush()?;
+    Ok(ExitCode::SUCCESS)
 }

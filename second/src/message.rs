@@ -26,13 +26,13 @@ fn known(tag: u8) -> bool {
 }
 
 /// The field that writes a length: 0 to 127 as one byte, 128 to 255 as 81 and the length; there is none for more.
-fn length_field(length: usize) -> Option<Vec<u8>> {
+pub fn length_field(length: usize) -> Option<Vec<u8>> {
     let byte = u8::try_from(length).ok()?;
     Some(if length <= LARGEST_SHORT { vec![byte] } else { vec![LONG, byte] })
 }
 
 /// The length that the bytes start with, and the size of its field; no other form is read.
-fn read_length(bytes: &[u8]) -> Option<(usize, usize)> {
+pub fn read_length(bytes: &[u8]) -> Option<(usize, usize)> {
     match *bytes {
         [length @ 0x00..=0x7f, ..] => Some((length.into(), 1)),
         [LONG, length @ 0x80..=0xff, ..] => Some((length.into(), 2)),
@@ -90,10 +90,14 @@ pub fn wrapped(key: &Key, header: &Header, tag: u8, data: &[u8]) -> Result<Vec<u
 
 /// Writes a message into the buffer from the place on: 1, 3. Every other byte stays.
 pub fn wrap(key: &Key, header: &Header, tag: u8, data: &[u8], buffer: &mut [u8], place: u64) -> Result<(), Refusal> {
-    let message = wrapped(key, header, tag, data)?;
+    lay(&wrapped(key, header, tag, data)?, buffer, place)
+}
+
+/// Writes bytes into the buffer from the place on, or refusal 3 where they do not fit.
+pub fn lay(bytes: &[u8], buffer: &mut [u8], place: u64) -> Result<(), Refusal> {
     let from = usize::try_from(place).map_err(|_| Refusal::NoRoom)?;
-    let to = from.checked_add(message.len()).ok_or(Refusal::NoRoom)?;
-    buffer.get_mut(from..to).ok_or(Refusal::NoRoom)?.copy_from_slice(&message);
+    let to = from.checked_add(bytes.len()).ok_or(Refusal::NoRoom)?;
+    buffer.get_mut(from..to).ok_or(Refusal::NoRoom)?.copy_from_slice(bytes);
     Ok(())
 }
 

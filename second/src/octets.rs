@@ -27,7 +27,24 @@ pub fn from_hex(digits: &[u8]) -> Option<Vec<u8>> {
 }
 
 pub fn to_hex(bytes: &[u8]) -> String {
-    bytes.iter().map(|byte| format!("{byte:02x}")).collect()
+    let sign = |half: u8| char::from_digit(half.into(), 16).expect("a half-byte");
+    bytes.iter().flat_map(|byte| [sign(byte >> 4), sign(byte & 15)]).collect()
+}
+
+/// The word of a string in a line: its digits, or `-` where it is empty.
+pub fn word_of(bytes: &[u8]) -> String {
+    if bytes.is_empty() {
+        return "-".to_string();
+    }
+    to_hex(bytes)
+}
+
+/// The string that a word writes.
+pub fn bytes_of(word: &str) -> Option<Vec<u8>> {
+    match word {
+        "-" => Some(vec![]),
+        _ => from_hex(word.as_bytes()),
+    }
 }
 
 /// Test data: the array that the digits write.

@@ -8,18 +8,10 @@
  * box.h names and that never came is a failure. */
 #include "box.h"
 
-#include <stdio.h>
-#include <stdlib.h>
-#include <string.h>
+#define PROGRAM "calls-test"
+#include "lines.h"
 
-enum { CANARY = 0xc5, MARGIN = 24, WORDS = 12, ARGUMENTS = 6, NUMBERS = BOX_REFUSALS_END, LONGEST = 1 << 20, CUTTINGS = 34 };
-
-static unsigned long line_number;
-
-static void fail(const char *what) {
-    printf("calls-test: FAILED in line %lu: %s\n", line_number, what);
-    exit(1);
-}
+enum { ARGUMENTS = 6, NUMBERS = BOX_REFUSALS_END, CUTTINGS = 34 };
 
 /* A string between canaries, with the bytes that it must hold after the call; or a number. */
 struct argument {
@@ -124,25 +116,6 @@ static uint32_t any(void) {
     return (uint32_t)(seed >> 33);
 }
 
-static unsigned digit(char sign) {
-    if (sign >= '0' && sign <= '9') return (unsigned)(sign - '0');
-    if (sign >= 'a' && sign <= 'f') return (unsigned)(sign - 'a') + 10;
-    fail("not a digit");
-    return 0;
-}
-
-static void read_bytes(const char *word, uint8_t *to, size_t length) {
-    size_t i;
-    for (i = 0; i < length; i++) to[i] = (uint8_t)(digit(word[2 * i]) << 4 | digit(word[2 * i + 1]));
-}
-
-static size_t length_of(const char *word) {
-    size_t signs = strlen(word);
-    if (strcmp(word, "-") == 0) return 0;
-    if (signs % 2 != 0) fail("odd number of digits");
-    return signs / 2;
-}
-
 /* The string of a word. It starts at a place of its own in its room, so that no alignment is taken for granted. */
 static struct argument lend(const char *word, const char *after) {
     struct argument a = {NULL, NULL, NULL, 0, 0};
@@ -162,7 +135,7 @@ static struct argument lend(const char *word, const char *after) {
 
 static struct argument count_of(const char *word) {
     struct argument a = {NULL, NULL, NULL, 0, 0};
-    for (; *word != '\0'; word++) a.number = a.number << 4 | digit(*word);
+    a.number = number_of(word);
     return a;
 }
 
@@ -178,16 +151,6 @@ static void back(struct argument *a, const char *name) {
     }
     free(a->room);
     free(a->after);
-}
-
-static size_t split(char *line, char **words) {
-    size_t count = 0;
-    char *word;
-    for (word = strtok(line, " \n"); word != NULL; word = strtok(NULL, " \n")) {
-        if (count == WORDS) fail("too many words");
-        words[count++] = word;
-    }
-    return count;
 }
 
 static void make(const struct function *f, char **words, size_t count) {
@@ -310,18 +273,13 @@ static int report(int all) {
 }
 
 int main(int argc, char **argv) {
-    char *line = malloc(LONGEST);
     char *words[WORDS];
+    size_t count;
     int all = argc == 2 && strcmp(argv[1], "all") == 0;
     int missing;
-    if (line == NULL) fail("no memory");
-    while (fgets(line, LONGEST, stdin) != NULL) {
-        size_t count;
+    while ((count = next_line(words)) > 0) {
         const struct function *f;
         const struct form *form;
-        line_number++;
-        if (strchr(line, '\n') == NULL) fail("line too long or torn");
-        count = split(line, words);
         if (count < 3) fail("too few words");
         f = find(words[0]);
         form = form_of(words[0]);
@@ -331,6 +289,5 @@ int main(int argc, char **argv) {
     }
     missing = report(all);
     if (calls + cuttings == 0 || (all && missing > 0)) fail("a number never came");
-    free(line);
     return 0;
 }

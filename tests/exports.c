@@ -480,9 +480,105 @@ static void of_parts(void) {
     of_state(box_code_feed, box_code_end, BOX_CODE_STATE, 49, 4, 1, "box_code_feed, box_code_end");
 }
 
+/* A string of these bytes. */
+static struct lent lend_bytes(const uint8_t *bytes, size_t length) {
+    struct lent s = lend(length);
+    if (length > 0) memcpy(s.at, bytes, length);
+    keep(&s);
+    return s;
+}
+
+/* Templates that are read, or the number and the place of their first fault; with wrong lengths of the outputs too. What was read is written again. */
+static void of_reading(const uint8_t *bytes, size_t length, uint8_t wanted, uint8_t at, const uint8_t *objects, size_t count) {
+    struct lent i = lend_bytes(bytes, length), o = lend(length_near(BOX_TEMPLATE_OBJECTS)), p = lend(length_near(BOX_TEMPLATE_PLACE)), b, s;
+    int fits = o.length == BOX_TEMPLATE_OBJECTS, placed = p.length == BOX_TEMPLATE_PLACE && wanted != 0;
+    size_t j;
+    expect(box_read_templates(i.at, i.length, o.at, o.length), fits ? wanted : 1, "box_read_templates");
+    expect(box_templates_fault(i.at, i.length, p.at, p.length), placed ? 0 : 1, "box_templates_fault");
+    if (placed && (p.at[0] != 0 || p.at[1] != 0 || p.at[2] != 0 || p.at[3] != at)) fail("box_templates_fault: place");
+    if (fits && wanted == 0) {
+        if (memcmp(o.at, objects, count * BOX_TEMPLATE_OBJECT) != 0) fail("box_read_templates: objects");
+        for (j = count * BOX_TEMPLATE_OBJECT; j < o.length; j++)
+            if (o.at[j] != 0) fail("box_read_templates: zeros");
+        b = lend(length + 2);
+        s = lend(BOX_TEMPLATE_SIZE);
+        expect(box_write_templates(o.at, count * BOX_TEMPLATE_OBJECT, i.at, i.length, b.at, b.length, 1, s.at, s.length), 0, "box_write_templates");
+        if (memcmp(b.at + 1, bytes, length) != 0) fail("box_write_templates of what was read");
+        if (s.at[0] != 0 || s.at[1] != 0 || s.at[2] != length / 256 || s.at[3] != length % 256) fail("box_write_templates: size");
+        back(b, 1, 1 + length, "box_write_templates");
+        back(s, 0, s.length, "box_write_templates");
+    }
+    back(i, 0, 0, "box_read_templates");
+    back(o, 0, fits && wanted == 0 ? o.length : 0, "box_read_templates");
+    back(p, 0, placed ? p.length : 0, "box_templates_fault");
+}
+
+/* One object, or objects, refused by the writer: nothing is written. */
+static void of_refusing(const uint8_t *bytes, size_t length, size_t source, size_t buffer, size_t place, size_t size, uint8_t wanted) {
+    struct lent o = lend_bytes(bytes, length), d = lend(source), b = lend(buffer), s = lend(size);
+    expect(box_write_templates(o.at, o.length, d.at, d.length, b.at, b.length, place, s.at, s.length), wanted, "box_write_templates");
+    back(o, 0, 0, "box_write_templates");
+    back(d, 0, 0, "box_write_templates");
+    back(b, 0, 0, "box_write_templates");
+    back(s, 0, 0, "box_write_templates");
+}
+
+/* tests/templates compares many more with the second program. */
+static void of_templates(void) {
+    static const uint8_t tree[] = {0xe1, 0x10, 0x71, 0x0c, 0x9f, 0x18, 4, 1, 2, 3, 4, 0x86, 1, 0xaa, 0x86, 0, 0x72, 0, 0x72, 0};
+    static const uint8_t objects[7][BOX_TEMPLATE_OBJECT] = {
+        {0, 0xe1, 0, 1, 0, 16, 0, 0, 0, 2},  {0, 0x71, 0, 2, 0, 12, 0, 0, 0, 4},  {0x9f, 0x18, 0, 3, 0, 4, 0, 0, 0, 7},
+        {0, 0x86, 0, 3, 0, 1, 0, 0, 0, 13}, {0, 0x86, 0, 3, 0, 0, 0, 0, 0, 16}, {0, 0x72, 0, 2, 0, 0, 0, 0, 0, 18},
+        {0, 0x72, 0, 1, 0, 0, 0, 0, 0, 20},
+    };
+    static const uint8_t deep[] = {0xe1, 8, 0xe1, 6, 0xe1, 4, 0x71, 2, 0x86, 0}, two[] = {0x71, 9, 0x86, 0, 0x9f, 0x18, 4, 1, 2, 3, 4};
+    static const size_t edges[8] = {0, 1, 126, 127, 128, 129, 251, 252};
+    uint8_t long_one[258], object[2][BOX_TEMPLATE_OBJECT] = {{0, 0x72, 0, 1, 0}, {0, 0x86, 0, 2, 0}}, empties[66];
+    size_t i;
+    of_reading(tree, sizeof tree, 0, 0, objects[0], 7);
+    of_reading(tree, sizeof tree - 1, 16, 18, NULL, 0);
+    of_reading(NULL, 0, 16, 0, NULL, 0);
+    of_reading(deep, sizeof deep, 17, 8, NULL, 0);
+    of_reading(two, sizeof two, 16, 4, NULL, 0);
+    for (i = 0; i < 66; i++) empties[i] = i % 2 == 0 ? 0x71 : 0;
+    of_reading(empties, 66, 18, 64, NULL, 0);
+    /* a command of each edge length in a template that just holds it */
+    for (i = 0; i < 8; i++) {
+        size_t n = edges[i], inside = n + (n < 128 ? 2 : 3), at = 0;
+        memset(long_one, 0x5a, sizeof long_one);
+        long_one[at++] = 0x72;
+        if (inside >= 128) long_one[at++] = 0x81;
+        long_one[at++] = (uint8_t)inside;
+        object[0][5] = (uint8_t)inside;
+        object[0][9] = (uint8_t)at;
+        long_one[at++] = 0x86;
+        if (n >= 128) long_one[at++] = 0x81;
+        long_one[at++] = (uint8_t)n;
+        object[1][5] = (uint8_t)n;
+        object[1][9] = (uint8_t)at;
+        of_reading(long_one, at + n, 0, 0, object[0], 2);
+        /* one byte less for the template: the command ends past it; or its length is 81 7f */
+        long_one[at - (n < 128 ? 3 : 4)]--;
+        of_reading(long_one, at + n, 16, inside == 128 ? 0 : (uint8_t)(at - (n < 128 ? 2 : 3)), NULL, 0);
+    }
+    of_refusing(NULL, 0, 0, 8, 0, BOX_TEMPLATE_SIZE, 16);
+    of_refusing(object[0], 19, 300, 300, 0, BOX_TEMPLATE_SIZE, 1);
+    of_refusing(object[0], 20, 300, 300, 0, BOX_TEMPLATE_SIZE - 1, 1);
+    of_refusing(object[0], 20, 300, 258, 1, BOX_TEMPLATE_SIZE, 3);
+    of_refusing(object[0], 20, 300, 300, 300, BOX_TEMPLATE_SIZE, 3);
+    of_refusing(object[0], 20, 300, 300, (size_t)0 - 1, BOX_TEMPLATE_SIZE, 3);
+    of_refusing(object[0], 20, 257, 300, 0, BOX_TEMPLATE_SIZE, 1);
+    object[1][5] = 253;
+    of_refusing(object[0], 20, 300, 300, 0, BOX_TEMPLATE_SIZE, 16);
+    object[1][4] = 1;
+    object[1][5] = 0;
+    of_refusing(object[0], 20, 300, 300, 0, BOX_TEMPLATE_SIZE, 1);
+}
+
 int main(void) {
     int i;
     of_forms();
+    for (i = 0; i < 100; i++) of_templates();
     for (i = 0; i < ROUNDS; i++) {
         of_two(box_encipher, 8, 0, 8, "box_encipher");
         of_two(box_decipher, 8, 0, 8, "box_decipher");

@@ -33,8 +33,11 @@ static const char help[] =
     "  box open SK-SMI HEADER MESSAGE                     a script message opened: its tag, then its data\n"
     "  box arpc SK-AC CRYPTOGRAM CSU                      the issuer's answer to a cryptogram\n"
     "  box idn IDN-KEY COUNTER LENGTH                     an ICC dynamic number of 2 to 8 bytes\n"
+    "  box templates [BYTES]                              script templates taken apart, an object a line: tag, level, place and length,\n"
+    "                                                     the identifier's bytes, and the command in words, or its bytes where it is\n"
+    "                                                     none of ours; without BYTES those of standard input, one line of digits\n"
     "\n"
-    "Keys (64 digits), headers, tags, data, cryptograms, messages and CSUs are hexadecimal; card numbers, PINs, sequence numbers and\n"
+    "Keys (64 digits), headers, tags, data, cryptograms, messages, CSUs and templates are hexadecimal; card numbers, PINs, sequence numbers and\n"
     "lengths are decimal; a transaction counter is four hexadecimal digits.\n";
 
 static int refused(unsigned number) {
@@ -66,17 +69,22 @@ struct bytes {
     size_t length;
 };
 
-static int hexadecimal(const char *word, struct bytes *b) {
-    size_t n = strlen(word), i;
+/* The bytes that n digits write; there is room for them. */
+static int pairs(const char *digits, size_t n, uint8_t *at) {
+    size_t i;
     if (n % 2 != 0) return misused("not pairs of hexadecimal digits");
-    if (n / 2 > sizeof b->at) return misused("a word of more than 1,024 digits");
     for (i = 0; i < n / 2; i++) {
-        int high = digit(word[2 * i]), low = digit(word[2 * i + 1]);
+        int high = digit(digits[2 * i]), low = digit(digits[2 * i + 1]);
         if (high < 0 || low < 0) return misused("not hexadecimal");
-        b->at[i] = (uint8_t)(high * 16 + low);
+        at[i] = (uint8_t)(high * 16 + low);
     }
-    b->length = n / 2;
     return 0;
+}
+
+static int hexadecimal(const char *word, struct bytes *b) {
+    b->length = strlen(word) / 2;
+    if (b->length > sizeof b->at) return misused("a word of more than 1,024 digits");
+    return pairs(word, strlen(word), b->at);
 }
 
 /* A word as one byte a decimal digit. */
@@ -321,6 +329,185 @@ static int idn(char **word) {
     return 0;
 }
 
+/* What box_read_templates says of one object. */
+struct object {
+    unsigned tag, level;
+    size_t length, place;
+};
+
+static struct object object_of(const uint8_t *bytes) {
+    struct object o;
+    o.tag = bytes[0] * 256u + bytes[1];
+    o.level = bytes[2] * 256u + bytes[3];
+    o.length = bytes[4] * 256u + bytes[5];
+    o.place = ((size_t)bytes[6] << 24) + ((size_t)bytes[7] << 16) + bytes[8] * 256u + bytes[9];
+    return o;
+}
+
+enum { OUTER = 0xe1, COMMAND = 0x86, IDENTIFIER = 0x9f18, LEVELS = 4 };
+
+/* The commands of the card: header, and what its message begins with; four bytes of code come after 8e 04. */
+static const struct {
+    const char *words;
+    uint8_t header[4], tag, length;
+} commands[] = {
+    {"PIN change", {0x84, 0x24, 0x00, 0x02}, 0x87, 8},
+    {"block", {0x84, 0x1e, 0x00, 0x00}, 0x81, 0},
+    {"unblock", {0x84, 0x18, 0x00, 0x00}, 0x81, 0},
+};
+
+/* The command that 86 holds, if it is one of these: header, the number of bytes after it, and the message. */
+static const char *command_of(const uint8_t *data, size_t length) {
+    size_t i;
+    for (i = 0; i < sizeof commands / sizeof commands[0]; i++) {
+        size_t n = commands[i].length;
+        if (length == n + 13 && memcmp(data, commands[i].header, 4) == 0 && data[4] == n + 8 && data[5] == commands[i].tag && data[6] == n &&
+            data[7 + n] == 0x8e && data[8 + n] == 4)
+            return commands[i].words;
+    }
+    return NULL;
+}
+
+static void print_object(const struct object *o, const uint8_t *input) {
+    const uint8_t *data = input + o->place;
+    printf("%*s%02x level %u place %lu length %lu", 2 * (int)(o->level - 1), "", o->tag, o->level, (unsigned long)o->place, (unsigned long)o->length);
+    if (o->tag == IDENTIFIER) {
+        print(" identifier", data, o->length);
+    } else if (o->tag != COMMAND || o->length == 0) {
+        putchar('\n');
+    } else if (command_of(data, o->length) != NULL) {
+        printf(" %s,", command_of(data, o->length));
+        print(" message", data + 5, o->length - 5);
+    } else {
+        print(" command", data, o->length);
+    }
+}
+
+/* A template that is open, or the input: its tag (0), its end, and how many objects stand in it. */
+struct holder {
+    unsigned tag;
+    size_t end, held;
+};
+
+/* The tag of the bytes from a place up to an end, 0 where there is none, and the place after it. */
+static unsigned tag_at(const uint8_t *input, size_t *place, size_t end) {
+    size_t at = *place;
+    if (at == end || (input[at] == 0x9f && end - at == 1)) return 0;
+    *place += input[at] == 0x9f ? 2 : 1;
+    return input[at] == 0x9f ? 0x9f00u + input[at + 1] : input[at];
+}
+
+/* The holder of the object at a place, all before which are good: the templates from the top down to it, of which the number is returned. */
+static unsigned holders_of(const uint8_t *input, size_t length, size_t place, struct holder *holders) {
+    unsigned open = 0;
+    size_t at = 0;
+    holders[0].tag = 0;
+    holders[0].end = length;
+    holders[0].held = 0;
+    for (;;) {
+        unsigned tag;
+        size_t n;
+        while (open > 0 && holders[open].end == at) open--;
+        if (at >= place || open == LEVELS) return open;
+        tag = tag_at(input, &at, length);
+        n = input[at++];
+        if (n == 0x81) n = input[at++];
+        holders[open].held++;
+        if (tag == COMMAND || tag == IDENTIFIER) {
+            at += n;
+        } else {
+            open++;
+            holders[open].tag = tag;
+            holders[open].end = at + n;
+            holders[open].held = 0;
+        }
+    }
+}
+
+static int is_template(unsigned tag) { return tag == 0x71 || tag == 0x72 || tag == OUTER; }
+
+/* Why the object at a place is bad. */
+static void print_reason(const uint8_t *input, size_t length, size_t place) {
+    struct holder holders[LEVELS + 1], *h = &holders[holders_of(input, length, place, holders)];
+    size_t at = place, n;
+    unsigned tag = tag_at(input, &at, h->end);
+    int script = h->tag == 0x71 || h->tag == 0x72;
+    const char *whole = h->tag == 0 ? "the input" : "its holder";
+    if (length == 0) fputs("there is no byte", stderr);
+    else if (at == place) fputs("9f is the first byte of a tag, and the second is missing", stderr);
+    else if (!is_template(tag) && tag != COMMAND && tag != IDENTIFIER) fprintf(stderr, "tag %02x is none of 71, 72, e1, 86, 9f18", tag);
+    else if (script && tag == IDENTIFIER && h->held > 0) fputs("tag 9f18 is not the first in its template", stderr);
+    else if (script == is_template(tag) && h->tag == 0) fprintf(stderr, "tag %02x may not stand at the top", tag);
+    else if (script == is_template(tag)) fprintf(stderr, "tag %02x may not stand in %02x", tag, h->tag);
+    else if (at == h->end || (input[at] == 0x81 && h->end - at == 1)) fprintf(stderr, "%s ends ahead of its length", whole);
+    else if (input[at] >= 0x80 && (input[at] != 0x81 || input[at + 1] < 0x80)) fputs("its length is in another form than 00 to 7f or 81 80 to 81 ff", stderr);
+    else {
+        n = input[at] == 0x81 ? input[at + 1] : input[at];
+        at += input[at] == 0x81 ? 2 : 1;
+        if (tag == IDENTIFIER && n != 4) fprintf(stderr, "an identifier has 4 bytes, and here are %lu", (unsigned long)n);
+        else fprintf(stderr, "it would end at %lu, and %s ends at %lu", (unsigned long)(at + n), whole, (unsigned long)h->end);
+    }
+}
+
+static int refused_templates(unsigned number, const uint8_t *input, size_t length) {
+    uint8_t place[BOX_TEMPLATE_PLACE];
+    unsigned long at;
+    if (box_templates_fault(input, length, place, sizeof place) != 0) return refused(number);
+    at = ((unsigned long)place[0] << 24) + ((unsigned long)place[1] << 16) + place[2] * 256u + place[3];
+    fprintf(stderr, "box: byte %lu: refusal %u: %s", at, number, box_words(number));
+    if (number == BOX_BAD_OBJECT) {
+        fputs(" (", stderr);
+        print_reason(input, length, (size_t)at);
+        fputs(")", stderr);
+    }
+    fputs("\n", stderr);
+    return 1;
+}
+
+static int templates_of(const uint8_t *input, size_t length) {
+    uint8_t objects[BOX_TEMPLATE_OBJECTS], r;
+    size_t i;
+    r = box_read_templates(input, length, objects, sizeof objects);
+    if (r != 0) return refused_templates(r, input, length);
+    for (i = 0; i < sizeof objects; i += BOX_TEMPLATE_OBJECT) {
+        struct object o = object_of(objects + i);
+        if (o.tag != 0) print_object(&o, input);
+    }
+    return 0;
+}
+
+/* The signs of standard input, without a line feed at the end; null where they cannot be had. */
+static char *all_signs(size_t *n) {
+    size_t room = 65536;
+    char *signs = malloc(room), *more;
+    *n = 0;
+    while (signs != NULL && (*n += fread(signs + *n, 1, room - *n, stdin)) == room) {
+        more = room > SIZE_MAX / 2 ? NULL : realloc(signs, room *= 2);
+        if (more == NULL) free(signs);
+        signs = more;
+    }
+    if (signs != NULL && ferror(stdin)) {
+        free(signs);
+        return NULL;
+    }
+    if (signs != NULL && *n > 0 && signs[*n - 1] == '\n') --*n;
+    return signs;
+}
+
+/* The bytes of a word, or of standard input. They take the place of their digits. */
+static int templates(char **word, int words) {
+    size_t n;
+    char *signs;
+    int status;
+    if (words == 0) signs = all_signs(&n);
+    else if ((signs = malloc((n = strlen(word[0])) + 1)) != NULL) memcpy(signs, word[0], n);
+    if (signs == NULL) return failed("the templates cannot be read");
+    status = pairs(signs, n, (uint8_t *)signs);
+    if (status == 0) status = templates_of((uint8_t *)signs, n / 2);
+    free(signs);
+    return status;
+}
+
 static int run(int argc, char **argv) {
     const char *command = argc > 1 ? argv[1] : "--help";
     char **word = argv + 2;
@@ -340,6 +527,7 @@ static int run(int argc, char **argv) {
     if (!strcmp(command, "open") && words == 3) return open_message(word);
     if (!strcmp(command, "arpc") && words == 3) return arpc(word);
     if (!strcmp(command, "idn") && words == 3) return idn(word);
+    if (!strcmp(command, "templates") && words <= 1) return templates(word, words);
     return misused("no such command, or not its number of words");
 }
 

@@ -1,6 +1,6 @@
 /* Answers calls of the functions for script templates, one a line of standard input, through the library: second/src/template_cases.rs has the form
- * of a line and of an answer. Every lent string lies between canaries, inputs are compared with a copy, and an empty input is null on every
- * other line. Byte i of a lent output is 29 i + 11 before the call. */
+ * of a line and of an answer. Every lent string lies between canaries, inputs are compared with a copy, and what is empty is null on every other
+ * line. Byte i of a lent output is 29 i + 11 before the call. */
 #include "box.h"
 
 #define PROGRAM "templates-test"
@@ -24,13 +24,13 @@ static void lend(struct room *room, size_t length) {
     for (i = 0; i < length; i++) room->at[i] = (uint8_t)(29 * i + 11);
     memset(room->at + length, CANARY, MARGIN);
     memcpy(room->copy, room->at, length);
+    if (length == 0 && line_number % 2 == 0) room->at = NULL;
 }
 
 static void give(struct room *room, const char *word) {
     lend(room, length_of(word));
-    read_bytes(word, room->at, room->length);
-    memcpy(room->copy, room->at, room->length);
-    if (room->length == 0 && line_number % 2 == 0) room->at = NULL;
+    read_bytes(word, room->copy, room->length);
+    if (room->length > 0) memcpy(room->at, room->copy, room->length);
 }
 
 static void canaries(const struct room *room) {

@@ -4,7 +4,7 @@ use crate::forms::{Form, FORMS};
 use crate::message::length_field;
 use crate::random::Random;
 use crate::template_cases::{Case, NUMBER, OBJECTS};
-use crate::templates::{read, written, Object, AFTER, BEFORE, COMMAND, IDENTIFIER, LONG_TAG, OUTER, RULES};
+use crate::templates::{laid, read, written, Object, AFTER, BEFORE, COMMAND, IDENTIFIER, LONG_TAG, OUTER, RULES};
 
 /// Lengths at the edges of the two forms, and of what a template holds.
 const EDGES: [usize; 14] = [0, 1, 3, 4, 5, 126, 127, 128, 129, 251, 252, 253, 254, 255];
@@ -370,6 +370,9 @@ impl Cases {
             source = nodes.iter().flat_map(Node::bytes).collect();
             objects = read(&source, &RULES).objects;
         }
+        if self.random.once_in(12) {
+            objects = self.brink(&mut source);
+        }
         if self.random.once_in(3) {
             let more = if self.random.once_in(20) { 300 } else { 2 };
             source.extend(self.random.bytes(more));
@@ -389,6 +392,29 @@ impl Cases {
         let size = written(&objects, &source, &RULES).map_or(self.random.below(40), |written| written.len());
         let (buffer, place) = self.buffer(size);
         Case::Write { objects: bytes, source, buffer, place, size: self.room(NUMBER) }
+    }
+
+    /// A template that would hold 255 bytes, or a few less or more, with one object in it that is too deep or one too many, and then any.
+    fn brink(&mut self, source: &mut Vec<u8>) -> Vec<Object> {
+        let object = |tag, level| Object { tag, level, length: 0, place: 0 };
+        let mut objects = vec![object(OUTER, 1)];
+        if self.random.once_in(2) {
+            objects.extend([object(BEFORE, 2); 32]);
+        } else {
+            objects.extend([object(OUTER, 2), object(OUTER, 3), object(AFTER, 4), object(COMMAND, 5)]);
+        }
+        for _ in 0..self.random.below(30) {
+            let any = self.random.next() as u16;
+            let tag = if self.random.once_in(4) { any } else { self.tag() };
+            objects.push(Object { tag, level: self.random.within(2, 8) as u16, length: self.random.below(5) as u16, place: 0 });
+        }
+        *source = self.random.bytes(255);
+        let held = laid(&objects, source).expect("data in the source").1[0];
+        let left = self.random.within(253, 257).saturating_sub(held);
+        if left >= 2 {
+            objects.push(Object { length: (if left < 130 { left - 2 } else { left - 3 }) as u16, ..object(COMMAND, 2) });
+        }
+        objects
     }
 
     /// Many objects more, at any level or at one.

@@ -5,7 +5,7 @@ use std::collections::BTreeMap;
 use crate::message::{read_length, LARGEST};
 use crate::refusal::{number_of, Refusal};
 use crate::template_cases::{objects_of, Case, NUMBER, OBJECTS};
-use crate::templates::{first_fault, is_template, laid, read, read_tag, written, Object, IDENTIFIER, LONG_TAG, RULES};
+use crate::templates::{first_fault, is_template, laid, read, read_tag, written, Object, Rules, IDENTIFIER, LONG_TAG, RULES};
 
 /// Causes that must be reached.
 const CAUSES: &[&str] = &[
@@ -196,6 +196,10 @@ const CAUSES: &[&str] = &[
     "write 16 a template of more",
     "write 16 a template too long, and none in it",
     "write 16 a template too long, and one in it",
+    "write 16 a template too long, else 0",
+    "write 16 a template too long, else 16",
+    "write 16 a template too long, else 17",
+    "write 16 a template too long, else 18",
     "write 16 a template too long, objects below the fourth level in it",
     "write 16 a template too long, objects of an unknown tag in it",
     "write 16 a template too long, objects past the 32nd in it",
@@ -220,6 +224,7 @@ const CAUSES: &[&str] = &[
     "write 17 86",
     "write 17 9f18",
     "write 17 e1",
+    "write 17 in a template of 255",
     "write 17 past the 32nd",
     "write 18 71 at level 1",
     "write 18 71 at level 2",
@@ -239,6 +244,7 @@ const CAUSES: &[&str] = &[
     "write 18 e1 at level 2",
     "write 18 e1 at level 3",
     "write 18 e1 at level 4",
+    "write 18 in a template of 255",
 ];
 
 #[derive(Default)]
@@ -457,6 +463,8 @@ fn causes_of_refused(objects: &[Object], source: &[u8], refusal: Refusal) -> Vec
         let inside = || objects[i + 1..].iter().enumerate().take_while(|(_, inside)| inside.level > object.level);
         let first = lengths[i + 1..].iter().take(inside().count()).all(|&length| length <= LARGEST);
         causes.push(format!("a template too long, {}", if first { "and none in it" } else { "and one in it" }));
+        let rest = first_fault(objects, &lengths, &Rules { largest: usize::MAX, ..RULES });
+        causes.push(format!("a template too long, else {}", rest.map_or(0, |(_, refusal)| refusal.number())));
         for (what, found) in [
             ("past the 32nd", inside().any(|(j, _)| i + 1 + j >= RULES.objects)),
             ("below the fourth level", inside().any(|(_, inside)| usize::from(inside.level) > RULES.levels)),
@@ -466,6 +474,9 @@ fn causes_of_refused(objects: &[Object], source: &[u8], refusal: Refusal) -> Vec
                 causes.push(format!("a template too long, objects {what} in it"));
             }
         }
+    }
+    if refusal != Refusal::BadObject && lengths[0] == LARGEST {
+        causes.push("in a template of 255".to_string());
     }
     add_lesser(&mut causes, refusal, object.level.into(), i);
     causes

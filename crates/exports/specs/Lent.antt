@@ -20,6 +20,7 @@ use Rattle.shapes.specs.Answers.{openedNumber, openedValues}
 use Rattle.octets.specs.Numbers.{beOctets}
 use Rattle.templates.specs.declared.Read.{Read}
 use Rattle.templates.specs.Lent.{laidObjects}
+use Rattle.scripts.specs.Writing.{writeNumber, writeSize, writeAfter}
 
 -- the number returned: 1 for a lent slice that is not n bytes long, else the answer's own
 unfoldable pub numberOf : ℕ → ℕ → List ℕ → ℕ
@@ -71,3 +72,9 @@ faultNumber a = cond (eqb (a .code) 0) (number Input) 0
 
 abbrev pub GivenFault : Read → List ℕ → ℕ → List ℕ → Type 0
 GivenFault a lent r after = Given 4 (faultNumber a) (beOctets 4 (a .at)) lent r after
+
+-- script templates written from objects b, whose data lie in the source s, into the buffer o at a place: 1 for a slice for the size that is not of 4 bytes
+pub record GivenTemplates (b s o : List ℕ) (place : ℕ) (size : List ℕ) (r : ℕ) (o-after size-after : List ℕ) : Type 0 where
+  pub number : r ≡ numberOf 4 (writeNumber b s o place) size
+  pub buffer : o-after ≡ cond (eqb (length size) 4) (writeAfter b s o place) o
+  pub slice : size-after ≡ bytesAfter 4 (writeNumber b s o place) (beOctets 4 (writeSize b s o place)) size

@@ -8,7 +8,7 @@ ghost use Rattle.keys.specs.Answers.{cardKey, cardKeyPacked, sessionKey, script
 ghost use Rattle.cards.specs.Cards.{cardsNumber, cardsAfter};
 ghost use Rattle.pin.specs.Answers.{writePin, readPin};
 ghost use Rattle.cryptogram.specs.Answers.{kindOf, arpcAnswer};
-ghost use Rattle.exports.specs.Lent.{Given, GivenKey, GivenBlock, GivenCode, GivenIdn, GivenRead, GivenOpened, GivenObjects, GivenFault, byNumber};
+ghost use Rattle.exports.specs.Lent.{Given, GivenKey, GivenBlock, GivenCode, GivenIdn, GivenRead, GivenOpened, GivenObjects, GivenFault, GivenTemplates, byNumber};
 ghost use Rattle.message.specs.Answers.{opened, wrapped, Wrote};
 ghost use Rattle.templates.specs.Reading.{reading};
 ghost use Rattle.hash.specs.States.{hashWay, begun, ended};
@@ -266,6 +266,26 @@ pub extern "C" fn box_templates_fault(input: &[u8], place: &mut [u8]) -> u8
         return give(Refusal::INPUT, &bytes, place);
     }
     give(0, &bytes, place)
+}
+
+// Script templates written into the buffer from a place on, of objects of ten bytes each whose data lie in a source, and the number of bytes written.
+// 1: a length, or data outside the source or above 255 bytes; 16, 17, 18: the first object at fault; 3: they do not fit there.
+#[no_mangle]
+pub extern "C" fn box_write_templates(
+    objects: &[u8],
+    source: &[u8],
+    buffer: &mut [u8],
+    place: usize,
+    size: &mut [u8],
+) -> u8
+    ensures { λ r. ⌜ GivenTemplates (now (objects .entry)) (now (source .entry)) (now (buffer .entry)) place (now (size .entry)) r (now (buffer .exit)) (now (size .exit)) ⌝ }
+{
+    if size.len() != 4 {
+        return Refusal::INPUT;
+    }
+    let w = scripts::write_templates(objects, source, buffer, place);
+    let bytes = templates::lay_place(w.size);
+    give(w.code, &bytes, size)
 }
 
 // A hash of no bytes so far, in a lent state of 261 bytes. 1: its length.

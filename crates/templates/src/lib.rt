@@ -125,7 +125,7 @@ fn tag_in(xs: &[u8]) -> usize
 }
 
 // How many bytes of a tag stand ahead of its last.
-fn ahead(tag: usize) -> usize
+pub fn ahead(tag: usize) -> usize
     ensures { λ r. ⌜ r ≡ aheadOf tag ⌝ }
 {
     if tag == IDENTIFIER {

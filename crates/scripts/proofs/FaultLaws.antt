@@ -1,10 +1,10 @@
 -- The objects judged one after the other, and what 0 says of them. Assumes nothing.
 use mathlib.Core.Path.{_≡_, refl, sym, ap, ap₂, subst, _∙_}
 use mathlib.Core.Bool.{Bool, true, false, _&&_, not, cond}
-use mathlib.Core.List.{List, [], _∷_, _++_}
-use Prim.Native.Nat.{ℕ, zero, suc, _+_, _-_, _*_, _/_, _%_, _≤_, _<_}
+use mathlib.Core.List.{List, [], _∷_}
+use Prim.Native.Nat.{ℕ, _+_, _-_, _/_, _%_, _≤_, _<_}
 use native.Mathlib.Omega.{arith}
-use borrow.Author.Tests.{eq-eqb, ne-eqb, eqb-true, eqb-false, le-leb, lt-leb, leb-true, leb-false, ltb-true, not-true, not-false}
+use borrow.Author.Tests.{eq-eqb, ne-eqb, eqb-true, eqb-false, lt-leb, leb-true, ltb-true, not-true, not-false}
 use lib.Dec.{eqb, leb, ltb}
 use lib.ListN.{length, getD}
 use Rattle.shapes.specs.Length.{largest}
@@ -14,8 +14,8 @@ use Rattle.templates.specs.declared.Object.{Object}
 use Rattle.templates.specs.Reading.{stands, lengthFits, judged}
 use Rattle.templates.proofs.HeadLaws.{both}
 use Rattle.scripts.specs.Writing.{said, allLie, lengthOfFirst, openAt, placed, levelAfter, holderAfter, faultFrom, objectsFault, checkNumber}
-use Rattle.scripts.specs.Inner.{at, from, Taken, lengthAt, Within, firsts, Table, Stood, Writable, none, more}
-use Rattle.scripts.proofs.FromLaws.{from-next, from-end, said-from, length-said}
+use Rattle.scripts.specs.Inner.{from, Taken, lengthAt, firsts, Table, Writable, none, more}
+use Rattle.scripts.proofs.FromLaws.{from-next, from-end, length-said}
 use Rattle.scripts.proofs.WithinLaws.{Agree, same, longer, length-agree}
 
 -- an object that is judged 0
@@ -42,7 +42,8 @@ leb-agree x y (longer p q) = lt-leb _ _ p ∙ sym (lt-leb _ _ q)
 placed-agree : (d : ℕ) (h : Holder) (o : Object) (x y : ℕ) → Agree x y → placed d h o x ≡ placed d h o y
 unfolding placed
 placed-agree d h o x y a =
-    ap (λ (z : Bool). leb 1 (o .level) && (leb (o .level) d && (stands (openAt d h (o .level)) (o .tag) && (lengthFits (o .tag) (o .length) && z)))) (leb-agree x y a)
+    ap (λ (z : Bool). leb 1 (o .level) && (leb (o .level) d && (stands (openAt d h (o .level)) (o .tag) && (lengthFits (o .tag) (o .length) && z))))
+    (leb-agree x y a)
 
 -- one object
 module _ (d : ℕ) (h : Holder) (c : ℕ) (o : Object) (os : List Object) where
@@ -60,6 +61,11 @@ module _ (d : ℕ) (h : Holder) (c : ℕ) (o : Object) (os : List Object) where
 pub fault-none : (d : ℕ) (h : Holder) (c : ℕ) → faultFrom d h c [] ≡ 0
 unfolding faultFrom
 fault-none d h c = refl
+
+-- the judging goes on after object i: the innermost holder is q at level v
+pub record Turned (d : ℕ) (h : Holder) (i v : ℕ) (q : Holder) (n : ℕ) (b : List ℕ) : Type 0 where
+  pub few : i < 32
+  pub same : faultFrom v q (i + 1) (from n b (i + 1)) ≡ faultFrom d h i (from n b i)
 
 module _ (b t : List ℕ) (w : Table b t) (d : ℕ) (h : Holder) (i : ℕ) (m : i ≤ 32) (l : i < length b / 10) (o : Object) (ta : Taken b i o)
     (f : Bool) (ef : f ≡ placed d h o (getD t i 0)) (k : ℕ) (ek : k ≡ judged f (o .level) i) where
@@ -91,14 +97,17 @@ module _ (b t : List ℕ) (w : Table b t) (d : ℕ) (h : Holder) (i : ℕ) (m : 
       ∙ placed-agree d h o _ _ (length-agree n b i m)
       ∙ ap (placed d h o) is-length)
 
-  pub fault-turn : k ≡ 0 → faultFrom d h i (from n b i) ≡ faultFrom (levelAfter o) (holderAfter d h o) (i + 1) (from n b (i + 1))
-  fault-turn e = ap (faultFrom d h i) rests ∙ fault-good d h i o (from n b (i + 1)) (sym is-verdict ∙ e)
-
   pub fault-stop : (k ≡ 0 → ⊥) → k ≡ faultFrom d h i (from n b i)
   fault-stop e = is-verdict ∙ sym (ap (faultFrom d h i) rests ∙ fault-bad d h i o (from n b (i + 1)) (λ z. e (is-verdict ∙ z)))
 
-  pub fault-few : k ≡ 0 → i < 32
-  fault-few e = judged-zero f (o .level) i (sym ek ∙ e) .few
+  pub fault-turn : k ≡ 0 → (v : ℕ) → v ≡ levelAfter o → (q : Holder) → q ≡ holderAfter d h o → Turned d h i v q n b
+  fault-turn e v ev q eq =
+      record {
+        few = judged-zero f (o .level) i (sym ek ∙ e) .few;
+        same =
+            ap₂ (λ (x : ℕ) (y : Holder). faultFrom x y (i + 1) (from n b (i + 1))) ev eq
+            ∙ sym (ap (faultFrom d h i) rests ∙ fault-good d h i o (from n b (i + 1)) (sym is-verdict ∙ e));
+      }
 
 pub fault-end : (d : ℕ) (h : Holder) (c n : ℕ) (b : List ℕ) (i : ℕ) → n ≤ i → 0 ≡ faultFrom d h c (from n b i)
 fault-end d h c n b i e = sym (ap (faultFrom d h c) (from-end n b i e) ∙ fault-none d h c)

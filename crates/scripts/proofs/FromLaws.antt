@@ -31,7 +31,7 @@ four b p h =
     ∙ omega arith
     ∙ ap be (sym (elements-part b p 4 h))
 
-same-object : {t l n p t′ l′ n′ p′ : ℕ} → t ≡ t′ → l ≡ l′ → n ≡ n′ → p ≡ p′
+pub same-object : {t l n p t′ l′ n′ p′ : ℕ} → t ≡ t′ → l ≡ l′ → n ≡ n′ → p ≡ p′
     → _≡_ {A = Object} (record { tag = t; level = l; length = n; place = p }) (record { tag = t′; level = l′; length = n′; place = p′ })
 same-object e f g h = cc
 

@@ -1,19 +1,17 @@
 -- One law for each way out of the writer's leaves. Assumes nothing.
 use mathlib.Core.Path.{_≡_, refl, sym, ap, _∙_}
-use mathlib.Core.Bool.{Bool, true, false, _&&_, not, cond, and-false}
+use mathlib.Core.Bool.{Bool, true, false, not, cond, and-false}
 use mathlib.Core.List.{List}
 use Prim.Native.Nat.{ℕ, _+_, _-_, _≤_, _<_}
 use native.Mathlib.Omega.{arith}
 use borrow.Author.Tests.{eq-eqb, ne-eqb, le-leb, lt-leb, leb-true, leb-false, not-true, not-false}
-use lib.Dec.{eqb, leb}
+use lib.Dec.{leb}
 use lib.ListN.{length}
 use Rattle.shapes.specs.Length.{largest}
 use Rattle.shapes.specs.Shape.{placeOf}
-use Rattle.shapes.proofs.LengthLaws.{place-small}
 use Rattle.templates.specs.declared.Holder.{Holder}
 use Rattle.templates.specs.declared.Holder.the-variants.{Outer}
 use Rattle.templates.specs.declared.Object.{Object}
-use Rattle.templates.specs.Grammar.{headSize}
 use Rattle.templates.specs.Reading.{stands, after, within, isTemplate, isData, ahead, lengthFits}
 use Rattle.templates.proofs.HeadLaws.{head-size, head-small}
 use Rattle.scripts.specs.Writing.{lies, ownLength, addedBy, openAt, placed, levelAfter, holderAfter}
@@ -51,14 +49,6 @@ module _ (o : Object) (d : Bool) (e : d ≡ isData (o .tag)) where
 
 pub headed : (t n a p : ℕ) → a ≡ ahead t → p ≡ placeOf n → Headed t n (a + p)
 headed t n a p e f = let h = head-size t n in let m = head-small t n in record { is = omega arith; small = omega arith }
-
-pub ahead-small : (t a : ℕ) → a ≡ ahead t → a ≤ 1
-unfolding ahead
-ahead-small t a e = go (eqb t 0x9f18) refl
-  where
-    go : (b : Bool) → eqb t 0x9f18 ≡ b → a ≤ 1
-    go true f = let x : a ≡ 1 = e ∙ ap (λ (z : Bool). cond z 1 0) f in omega arith
-    go false f = let x : a ≡ 0 = e ∙ ap (λ (z : Bool). cond z 1 0) f in omega arith
 
 pub own-small : (o : Object) (r : ℕ) → o .length < 65536 → r ≡ ownLength o 0 → r < 65536
 unfolding ownLength

@@ -4,3 +4,10 @@ pub mod StoreLaws
 pub mod WithinLaws
 pub mod FaultLaws
 pub mod WriteLaws
+pub mod ShownLaws
+pub mod AgainLaws
+pub mod AcceptLaws
+pub mod LeftLaws
+pub mod GrammarLaws
+pub mod StatementLaws
+pub mod RoundLaws

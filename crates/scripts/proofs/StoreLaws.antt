@@ -1,21 +1,20 @@
 -- Tag, length field and data, as they are stored. Assumes nothing.
-use mathlib.Core.Path.{_≡_, refl, sym, ap, ap₂, _∙_}
-use mathlib.Core.Bool.{Bool, true, false, _||_, true≢false}
+use mathlib.Core.Path.{_≡_, sym, ap, _∙_}
+use mathlib.Core.Bool.{true}
 use mathlib.Core.List.{List, [], _∷_, _++_}
 use Prim.Native.Nat.{ℕ, _+_, _≤_, _<_}
 use native.Mathlib.Numerals.{add-one}
 use native.Mathlib.Omega.{arith}
-use borrow.Author.Tests.{eqb-true}
-use lib.Dec.{eqb}
 use lib.ListN.{length, take, drop, set, length-drop}
 use lib.Seq.{paste, sets-eq, length-take-le}
 use Rattle.octets.specs.Laid.{laid}
-use Rattle.shapes.specs.Length.{largest, largestShort, lengthField}
+use Rattle.shapes.specs.Length.{largestShort, lengthField}
 use Rattle.shapes.proofs.LengthLaws.{field-short, field-long}
 use Rattle.templates.specs.declared.Holder.{Holder}
 use Rattle.templates.specs.declared.Holder.the-variants.{Outer, Fresh, Begun}
-use Rattle.templates.specs.Grammar.{identifierTag, tagBytes}
+use Rattle.templates.specs.Grammar.{template1, template2, identifierTag, tagBytes}
 use Rattle.templates.specs.Reading.{stands}
+use Rattle.templates.proofs.ParseLaws.{InOuter, a-script, an-outer, in-outer, InFresh, an-identifier, a-command, in-fresh, in-begun}
 use Rattle.templates.proofs.HeadLaws.{Tagged, one, two, tagged}
 use Rattle.scripts.specs.Inner.{Stood, Laid}
 
@@ -54,26 +53,24 @@ tag-one b p t e h = stored-one b p t (tagBytes t) (bytes-one t e) h
 
 -- a tag that stands somewhere is the identifier's or a byte
 pub tag-low : (t : ℕ) → Stood t → (t ≡ identifierTag → ⊥) → t < 256
-unfolding stands
 tag-low t s n = go (s .holder) (s .stood)
   where
-    outer : (a b c : Bool) → eqb t 0x71 ≡ a → eqb t 0x72 ≡ b → eqb t 0xe1 ≡ c → (a || (b || c)) ≡ true → t < 256
-    outer true b c x y z e = let w = eqb-true t 0x71 x in omega arith
-    outer false true c x y z e = let w = eqb-true t 0x72 y in omega arith
-    outer false false true x y z e = let w = eqb-true t 0xe1 z in omega arith
-    outer false false false x y z e = absurd (true≢false (sym e))
+    outer : InOuter t → t < 256
+    outer (a-script template1 i) = omega arith
+    outer (a-script template2 i) = omega arith
+    outer (an-outer i) = omega arith
 
-    fresh : (a b : Bool) → eqb t identifierTag ≡ a → eqb t 0x86 ≡ b → (a || b) ≡ true → t < 256
-    fresh true b x y e = absurd (n (eqb-true t identifierTag x))
-    fresh false true x y e = let w = eqb-true t 0x86 y in omega arith
-    fresh false false x y e = absurd (true≢false (sym e))
+    fresh : InFresh t → t < 256
+    fresh (an-identifier i) = absurd (n i)
+    fresh (a-command i) = omega arith
 
     go : (h : Holder) → stands h t ≡ true → t < 256
-    go Outer e = outer _ _ _ refl refl refl e
-    go Fresh e = fresh _ _ refl refl e
-    go Begun e = let y = eqb-true t 0x86 e in omega arith
+    go Outer e = outer (in-outer t e)
+    go Fresh e = fresh (in-fresh t e)
+    go Begun e = let i = in-begun t e in omega arith
 
-pub field-two : (b : List ℕ) (p n : ℕ) → largestShort < n → p + length (lengthField n) ≤ length b → Laid b p (lengthField n) (p + 2) (set (set b p 0x81) (p + 1) n)
+pub field-two : (b : List ℕ) (p n : ℕ) → largestShort < n → p + length (lengthField n) ≤ length b
+    → Laid b p (lengthField n) (p + 2) (set (set b p 0x81) (p + 1) n)
 field-two b p n e h = stored-two b p 0x81 n (lengthField n) (field-long n e) h
 
 pub field-one : (b : List ℕ) (p n : ℕ) → n ≤ largestShort → p + length (lengthField n) ≤ length b → Laid b p (lengthField n) (p + 1) (set b p n)

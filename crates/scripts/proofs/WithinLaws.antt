@@ -6,17 +6,15 @@ use Prim.Native.Nat.{ℕ, zero, suc, _+_, _-_, _*_, _/_, _≤_, _<_}
 use native.Mathlib.Omega.{arith}
 use borrow.Author.Tests.{le-leb, lt-leb, leb-true, leb-false, not-true, not-false}
 use lib.Dec.{leb}
-use lib.ListN.{length, take, getD}
+use lib.ListN.{length, take, getD, set, length-set}
 use lib.Seq.{getD-set-same, getD-set-other}
-use lib.ListN.{set, length-set}
 use Rattle.shapes.specs.Length.{largest}
 use Rattle.templates.specs.declared.Object.{Object}
-use Rattle.templates.specs.Grammar.{headSize}
 use Rattle.templates.specs.Reading.{isData}
 use Rattle.templates.proofs.HeadLaws.{head-small}
-use Rattle.scripts.specs.Writing.{lies, allLie, said, ownLength, addedBy, bytesWithin, lengthOfFirst}
+use Rattle.scripts.specs.Writing.{lies, allLie, ownLength, addedBy, bytesWithin, lengthOfFirst}
 use Rattle.scripts.specs.Inner.{at, from, Taken, Added, lengthAt, Within, firsts, Table}
-use Rattle.scripts.proofs.FromLaws.{from-next, from-end, from-cut, said-from}
+use Rattle.scripts.proofs.FromLaws.{from-next, from-end, from-cut}
 
 -- data that lie in the source, object by object
 module _ (s : List ℕ) (n : ℕ) (b : List ℕ) (i : ℕ) (h : i < n) (o : Object) (t : Taken b i o) (d : Bool) (e : d ≡ lies s o) where
@@ -68,7 +66,8 @@ module _ (l n : ℕ) (b : List ℕ) (k : ℕ) where
 pub within-start : (n : ℕ) (b t : List ℕ) → length t ≡ 192 → n ≤ 192 → n * 10 ≤ length b → Within n b n t
 within-start n b t r f i = record { room = r; few = f; inside = i; start = omega arith; each = λ k x y. absurd (omega arith) }
 
-module _ (n : ℕ) (b : List ℕ) (i : ℕ) (t : List ℕ) (w : Within n b (i + 1) t) (o : Object) (ta : Taken b i o) (m : ℕ) (e : m ≡ bytesWithin (o .level) (from n b (i + 1))) (r : ℕ) (f : r ≡ ownLength o m) where
+module _ (n : ℕ) (b : List ℕ) (i : ℕ) (t : List ℕ) (w : Within n b (i + 1) t) (o : Object) (ta : Taken b i o) (m : ℕ)
+    (e : m ≡ bytesWithin (o .level) (from n b (i + 1))) (r : ℕ) (f : r ≡ ownLength o m) where
   filled : r ≡ lengthAt n b i
   unfolding lengthAt lengthOfFirst
   filled = f ∙ ap (ownLength o) e ∙ ap (λ (z : Object). ownLength z (bytesWithin (z .level) (from n b (i + 1)))) (ta .is)
@@ -98,7 +97,8 @@ module _ (n : ℕ) (b : List ℕ) (i : ℕ) (t : List ℕ) (w : Within n b (i + 
           getD-set-other t i k r 0 (λ z. omega (arith, z)) ∙ w .each k (omega arith) y
 
 -- the same, as the loop goes down from i
-pub within-down : (n : ℕ) (b : List ℕ) (i : ℕ) (t : List ℕ) → 0 < i → Within n b i t → (o : Object) → Taken b (i - 1) o → (m : ℕ) → m ≡ bytesWithin (o .level) (from n b i)
+pub within-down : (n : ℕ) (b : List ℕ) (i : ℕ) (t : List ℕ) → 0 < i → Within n b i t → (o : Object) → Taken b (i - 1) o → (m : ℕ)
+    → m ≡ bytesWithin (o .level) (from n b i)
     → (r : ℕ) → r ≡ ownLength o m → Within n b (i - 1) (set t (i - 1) r)
 within-down n b i t h w o ta m e r f =
     let j : i ≡ i - 1 + 1 = omega arith in
@@ -114,7 +114,8 @@ lower : (l m : ℕ) (os : List Object) → l ≤ m → bytesWithin m os ≤ byte
 lower l m [] h = let a = within-none l in let b = within-none m in omega arith
 lower l m (o ∷ os) h = go (lower l m os h) (leb (o .level) l) refl (leb (o .level) m) refl
   where
-    go : bytesWithin m os ≤ bytesWithin l os → (x : Bool) → leb (o .level) l ≡ x → (y : Bool) → leb (o .level) m ≡ y → bytesWithin m (o ∷ os) ≤ bytesWithin l (o ∷ os)
+    go : bytesWithin m os ≤ bytesWithin l os → (x : Bool) → leb (o .level) l ≡ x → (y : Bool) → leb (o .level) m ≡ y
+        → bytesWithin m (o ∷ os) ≤ bytesWithin l (o ∷ os)
     go i x e true f = let a = within-shut m o os (leb-true _ _ f) in omega arith
     go i true e false f = let a : o .level ≤ l = leb-true _ _ e in let b : m < o .level = leb-false _ _ f in absurd (omega arith)
     go i false e false f =

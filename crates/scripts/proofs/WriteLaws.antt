@@ -1,8 +1,8 @@
 -- Objects written one after the other, and what writing answers. Assumes nothing.
-use mathlib.Core.Path.{_≡_, refl, sym, ap, ap₂, subst, _∙_}
+use mathlib.Core.Path.{_≡_, refl, sym, ap, subst, _∙_}
 use mathlib.Core.Bool.{Bool, true, false, _&&_, _||_, not, cond}
 use mathlib.Core.List.{List, [], _∷_, _++_, append-assoc, append-nil}
-use Prim.Native.Nat.{ℕ, zero, suc, _+_, _-_, _*_, _/_, _≤_, _<_}
+use Prim.Native.Nat.{ℕ, _+_, _-_, _/_, _≤_, _<_}
 use native.Mathlib.Nat.{add-zero}
 use native.Mathlib.Omega.{arith}
 use borrow.Author.Tests.{eq-eqb, ne-eqb, leb-true, not-true, not-false}
@@ -17,7 +17,7 @@ use Rattle.templates.specs.Grammar.{tagBytes, headSize}
 use Rattle.templates.specs.Reading.{isData}
 use Rattle.templates.proofs.HeadLaws.{both}
 use Rattle.scripts.specs.Writing.{said, lies, allLie, ownLength, addedBy, bytesWithin, lengthOfFirst, dataIn, bytesOf, checkNumber, writeNumber, writeSize, writeAfter, Wrote}
-use Rattle.scripts.specs.Inner.{at, from, Taken, lengthAt, Within, firsts, Table, Stood, Laid, ownBytes, Fits, Writable, none, more, Ready}
+use Rattle.scripts.specs.Inner.{from, Taken, lengthAt, Within, Table, Stood, Laid, ownBytes, Fits, Writable, more, Ready}
 use Rattle.scripts.proofs.FromLaws.{from-next, from-end, said-from}
 use Rattle.scripts.proofs.WithinLaws.{within-none, within-open, all-measured}
 use Rattle.scripts.proofs.FaultLaws.{Accepted, accepted}
@@ -34,7 +34,8 @@ module _ (s : List ℕ) (o : Object) where
 
   pub data-lies : isData (o .tag) ≡ true → lies s o ≡ true → o .place + o .length ≤ length s
   unfolding lies
-  data-lies e l = leb-true _ _ (both {a = leb (o .length) largest} (ap (λ (x : Bool). not x || (leb (o .length) largest && leb (o .place + o .length) (length s))) (sym e) ∙ l) .1)
+  data-lies e l = leb-true _ _ (both {a = leb (o .length) largest}
+      (ap (λ (x : Bool). not x || (leb (o .length) largest && leb (o .place + o .length) (length s))) (sym e) ∙ l) .1)
 
   pub data-length : isData (o .tag) ≡ true → lies s o ≡ true → length (dataIn s o) ≡ o .length
   data-length e l =
@@ -42,7 +43,8 @@ module _ (s : List ℕ) (o : Object) where
       ap length (data-some e) ∙ length-take-le (o .length) (drop (o .place) s) (simp length-drop (omega arith))
 
 -- strings laid one after the other
-laid-then : (b : List ℕ) (p : ℕ) (s : List ℕ) (q : ℕ) (y t : List ℕ) (r : ℕ) (z : List ℕ) → p + length s ≤ length b → Laid b p s q y → Laid y q t r z → Laid b p (s ++ t) r z
+laid-then : (b : List ℕ) (p : ℕ) (s : List ℕ) (q : ℕ) (y t : List ℕ) (r : ℕ) (z : List ℕ) → p + length s ≤ length b → Laid b p s q y → Laid y q t r z
+    → Laid b p (s ++ t) r z
 laid-then b p s q y t r z h f g =
     let a = length-append s t in
     let i = f .next in
@@ -129,6 +131,12 @@ pub record Left (n : ℕ) (b s : List ℕ) (i : ℕ) (size p : ℕ) : Type 0 whe
   pub lie : allLie s (from n b i) ≡ true
   pub room : p + length (bytesOf s (from n b i)) ≤ size
 
+-- and then the buffer is e
+pub record Turned (n : ℕ) (b s : List ℕ) (i : ℕ) (size p : ℕ) (out e : List ℕ) : Type 0 where
+  pub kept : length out ≡ size
+  pub left : Left n b s i size p
+  pub same : laid out p (bytesOf s (from n b i)) ≡ e
+
 abbrev pub count : List ℕ → ℕ
 count b = length b / 10
 
@@ -145,7 +153,7 @@ pub table-all : (b t : List ℕ) → count b ≤ 32 → Table b t → Within (co
 unfolding Table
 table-all b t h w = subst (λ (n : ℕ). Within n b 0 t) (all-measured (count b) (omega arith)) w
 
-lie-parts : (s : List ℕ) (o : Object) (os : List Object) → allLie s (o ∷ os) ≡ true → (lies s o ≡ true) × (allLie s os ≡ true)
+pub lie-parts : (s : List ℕ) (o : Object) (os : List Object) → allLie s (o ∷ os) ≡ true → (lies s o ≡ true) × (allLie s os ≡ true)
 unfolding allLie
 lie-parts s o os e = both e
 
@@ -206,18 +214,21 @@ module _ (n : ℕ) (b s t : List ℕ) (w : Within n b 0 t) (i : ℕ) (h : i < n)
       }
 
   module _ (out : List ℕ) (e : length out ≡ size) (r : ℕ) (z : List ℕ) (la : Laid out p (ownBytes s o here) r z) where
-    pub left-turn : Left n b s (i + 1) size r
+    left-turn : Left n b s (i + 1) size r
     left-turn = let a = whole-room in let j = la .next in record { can = its-parts .rest; lie = its-lies .1; room = omega arith }
 
-    pub laid-turn : laid z r (bytesOf s rest) ≡ laid out p (bytesOf s (from n b i))
+    laid-turn : laid z r (bytesOf s rest) ≡ laid out p (bytesOf s (from n b i))
     laid-turn =
         let a = whole-room in
         ap (λ (x : List ℕ). laid x r (bytesOf s rest)) (la .buffer)
         ∙ laid-laid out p (ownBytes s o here) (omega arith) (bytesOf s rest) r (la .next)
         ∙ ap (laid out p) (sym bytes-here)
 
-    pub length-turn : length z ≡ size
+    length-turn : length z ≡ size
     length-turn = let a = whole-room in laid-length out p (ownBytes s o here) r z (omega arith) la ∙ e
+
+    pub turned : Turned n b s (i + 1) size r z (laid out p (bytesOf s (from n b i)))
+    turned = record { kept = length-turn; left = left-turn; same = laid-turn }
 
 pub laid-end : (n : ℕ) (b s : List ℕ) (i : ℕ) (out : List ℕ) (p : ℕ) → n ≤ i → out ≡ laid out p (bytesOf s (from n b i))
 unfolding bytesOf
@@ -235,7 +246,8 @@ own-size s o n l = go (isData (o .tag)) refl
         omega arith
 
     go : (d : Bool) → isData (o .tag) ≡ d
-        → length (tagBytes (o .tag) ++ (lengthField n ++ dataIn s o)) ≡ length (tagBytes (o .tag)) + length (lengthField n) + cond (isData (o .tag)) (o .length) 0
+        → length (tagBytes (o .tag) ++ (lengthField n ++ dataIn s o)) ≡ length (tagBytes (o .tag)) + length (lengthField n) + cond (isData (o .tag))
+        (o .length) 0
     go true e =
         let x = data-length s o e l in
         let y : cond (isData (o .tag)) (o .length) 0 ≡ o .length = ap (λ (z : Bool). cond z (o .length) 0) e in
@@ -268,7 +280,12 @@ module _ (b s out : List ℕ) (p : ℕ) where
   refused k e n =
       let w : writeNumber b s out p ≡ checkNumber b s = number-refused in
       let z : eqb (writeNumber b s out p) 0 ≡ false = ne-eqb _ _ (λ i. n (e ∙ sym w ∙ i)) in
-      record { code-is = e ∙ sym w; size-is = sym (ap (λ (x : Bool). cond x (length (bytesOf s (said b))) 0) z); buffer-is = sym (ap (λ (x : Bool). cond x (laid out p (bytesOf s (said b))) out) z) }
+      record {
+        code-is = e ∙ sym w;
+        size-is = sym (ap (λ (x : Bool). cond x (length (bytesOf s (said b))) 0) z);
+        buffer-is = sym
+            (ap (λ (x : Bool). cond x (laid out p (bytesOf s (said b))) out) z);
+      }
     where
       number-refused : writeNumber b s out p ≡ checkNumber b s
       number-refused = simp (ne-eqb (checkNumber b s) 0 (λ i. n (e ∙ i)))
@@ -295,7 +312,12 @@ module _ (b s out : List ℕ) (p : ℕ) where
       unfolding writeSize writeAfter
       no-room h =
           let c : writeNumber b s out p ≡ 3 = number-is ∙ ap (λ (x : Bool). cond x 0 3) (not-true r h) in
-          record { code-is = sym c; size-is = sym (ap (λ (x : ℕ). cond (eqb x 0) (length (bytesOf s (said b))) 0) c); buffer-is = sym (ap (λ (x : ℕ). cond (eqb x 0) (laid out p (bytesOf s (said b))) out) c) }
+          record {
+            code-is = sym c;
+            size-is = sym (ap (λ (x : ℕ). cond (eqb x 0) (length (bytesOf s (said b))) 0) c);
+            buffer-is = sym
+                (ap (λ (x : ℕ). cond (eqb x 0) (laid out p (bytesOf s (said b))) out) c);
+          }
 
       module _ (h : not r ≡ false) where
         pub ready : Ready b s t (length out) p

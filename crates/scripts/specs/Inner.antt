@@ -1,5 +1,5 @@
 -- What the writer's parts say of each other. Assumes nothing.
-use Prim.Native.Nat.{ℕ, suc, _+_, _-_, _*_, _/_, _<_, _≤_}
+use Prim.Native.Nat.{ℕ, _+_, _-_, _*_, _/_, _<_, _≤_}
 use mathlib.Core.Path.{_≡_}
 use mathlib.Core.Bool.{true, cond}
 use mathlib.Core.List.{List, [], _∷_, _++_}
@@ -11,8 +11,8 @@ use Rattle.shapes.specs.Length.{largest, lengthField}
 use Rattle.templates.specs.declared.Holder.{Holder}
 use Rattle.templates.specs.declared.Object.{Object}
 use Rattle.templates.specs.Grammar.{tagBytes, headSize}
-use Rattle.templates.specs.Reading.{stands}
 use Rattle.templates.specs.Lent.{objectIn, objectsIn}
+use Rattle.templates.specs.Reading.{stands}
 use Rattle.scripts.specs.Writing.{said, lies, allLie, lengthOfFirst, addedBy, dataIn, bytesOf}
 
 -- the number r of two bytes at a place

@@ -1,7 +1,7 @@
 -- Writing script templates (Wish 6): objects in order, as bytes that the caller lends, and their data in a source that he lends too. Assumes nothing.
 use Prim.Native.Nat.{ℕ, _+_, _/_, _%_}
 use mathlib.Core.Path.{_≡_}
-use mathlib.Core.Bool.{Bool, true, false, _&&_, _||_, not, cond}
+use mathlib.Core.Bool.{Bool, true, _&&_, _||_, not, cond}
 use mathlib.Core.List.{List, [], _∷_, _++_}
 use lib.Dec.{eqb, leb}
 use lib.ListN.{length, take, drop}
@@ -10,7 +10,7 @@ use Rattle.answers.specs.Refusals.{number}
 use Rattle.octets.specs.Laid.{laid}
 use Rattle.shapes.specs.Length.{largest, lengthField}
 use Rattle.templates.specs.declared.Holder.{Holder}
-use Rattle.templates.specs.declared.Holder.the-variants.{Outer, Fresh, Begun}
+use Rattle.templates.specs.declared.Holder.the-variants.{Outer}
 use Rattle.templates.specs.declared.Object.{Object}
 use Rattle.templates.specs.Grammar.{tagBytes, headSize}
 use Rattle.templates.specs.Lent.{objectsIn}

@@ -1,14 +1,10 @@
 use Rattle.scripts.proofs.LeafLaws.{room-past, room-there}
 use Rattle.scripts.proofs.has_room.Statement.{statement}
 use Rattle.scripts.proofs.has_room.Tie as tie
-use Rattle.scripts.proofs.has_room.Reads as reads
-use Rattle.scripts.proofs.has_room.Lts as lts
 
--- src/lib.rt:309:9
 returns : tie.Need-returns
 returns c = search room-past
 
--- src/lib.rt:305:1
 returns-2 : tie.Need-returns-2
 returns-2 c = search room-there
 

@@ -2,15 +2,11 @@ use borrow.Author.Tests.{le-leb, lt-leb}
 use Rattle.scripts.specs.Inner.{firsts}
 use Rattle.scripts.proofs.measured.Statement.{statement}
 use Rattle.scripts.proofs.measured.Tie as tie
-use Rattle.scripts.proofs.measured.Reads as reads
-use Rattle.scripts.proofs.measured.Lts as lts
 
--- src/lib.rt:125:9
 returns : tie.Need-returns
 unfolding firsts
 returns c = simp (le-leb _ _ (c .if1 .taken))
 
--- src/lib.rt:121:1
 returns-2 : tie.Need-returns-2
 unfolding firsts
 returns-2 c = simp (lt-leb _ _ (c .if1 .left))

@@ -1,14 +1,10 @@
 use Rattle.scripts.proofs.LeafLaws.{open-innermost, open-outside}
 use Rattle.scripts.proofs.open_at.Statement.{statement}
 use Rattle.scripts.proofs.open_at.Tie as tie
-use Rattle.scripts.proofs.open_at.Reads as reads
-use Rattle.scripts.proofs.open_at.Lts as lts
 
--- src/lib.rt:151:9
 returns : tie.Need-returns
 returns c = search open-innermost
 
--- src/lib.rt:147:1
 returns-2 : tie.Need-returns-2
 returns-2 c = search open-outside
 

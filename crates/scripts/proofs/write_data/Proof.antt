@@ -1,5 +1,4 @@
 use native.Mathlib.Omega.{arith}
-use borrow.Author.Needs.{needs}
 use mathlib.Core.Path.{_≡_, refl, sym, ap, ap₂, _∙_}
 use mathlib.Core.List.{List}
 use Prim.Native.Nat.{ℕ, _≤_, _-_, _+_}
@@ -9,8 +8,6 @@ use lib.Seq.{paste, paste-zero, paste-suc, getD-drop}
 use Rattle.scripts.proofs.StoreLaws.{data-pasted}
 use Rattle.scripts.proofs.write_data.Statement.{statement}
 use Rattle.scripts.proofs.write_data.Tie as tie
-use Rattle.scripts.proofs.write_data.Reads as reads
-use Rattle.scripts.proofs.write_data.Lts as lts
 
 abbrev Inv-loop : tie.InvT-loop
 Inv-loop out₀ at source place n i₀ out i = (i ≤ n) × (length out ≡ length out₀) × (out ≡ paste out₀ at (drop place source) i)
@@ -18,35 +15,21 @@ Inv-loop out₀ at source place n i₀ out i = (i ≤ n) × (length out ≡ leng
 abbrev μ-loop : tie.MeasureT-loop
 μ-loop out₀ at source place n i₀ out i = n - i
 
--- src/lib.rt:269:5
 loop-holds : tie.Need-loop-holds Inv-loop μ-loop
 loop-holds c = let x = c .args in (omega arith, refl, paste-zero (x .out .now) (x .at) (drop (x .place) (x .source .now)))
 
--- src/lib.rt:270:30
 add-out : tie.Need-add-out Inv-loop μ-loop
 add-out c = let p = c .before .before .pre .0 in omega arith
 
--- src/lib.rt:270:23
 shared-slice-read-out : tie.Need-shared-slice-read-out Inv-loop μ-loop
 shared-slice-read-out c = let p = c .before .before .before .pre .0 in omega arith
 
--- src/lib.rt:270:13
 add-out-2 : tie.Need-add-out-2 Inv-loop μ-loop
 add-out-2 c = let p = c .before .before .before .pre .1 in omega arith
 
--- src/lib.rt:270:9
 slice-write-out : tie.Need-slice-write-out Inv-loop μ-loop
 slice-write-out c = let p = c .before .before .before .pre .1 in let l = c .before .before .loop .inv .1 in omega arith
 
--- src/lib.rt:271:9
-add-i : tie.Need-add-i Inv-loop μ-loop
-add-i c = omega arith
-
--- src/lib.rt:269:5
-loop-less : tie.Need-loop-less Inv-loop μ-loop
-loop-less c = omega arith
-
--- src/lib.rt:269:5
 loop-again : tie.Need-loop-again Inv-loop μ-loop
 loop-again c = let x = c .before .before .before .args in
     let l = c .before .before .loop in
@@ -61,15 +44,12 @@ loop-again c = let x = c .before .before .before .args in
           ∙ ap (paste (x .out .now) (x .at) s) (sym (add-one (l .i))),
     )
 
--- src/lib.rt:273:5
 add-result : tie.Need-add-result Inv-loop μ-loop
 add-result c = let p = c .before .before .pre .1 in omega arith
 
--- src/lib.rt:264:1
 same-length : tie.Need-same-length Inv-loop μ-loop
 same-length c = c .before .loop .inv .1
 
--- src/lib.rt:264:1
 returns : tie.Need-returns Inv-loop μ-loop
 returns c = let x = c .before .before .args in
     let l = c .before .loop in
@@ -87,8 +67,8 @@ write-data-spec =
     shared-slice-read-out
     add-out-2
     slice-write-out
-    add-i
-    loop-less
+    (λ c. omega arith)
+    (λ c. omega arith)
     loop-again
     add-result
     same-length

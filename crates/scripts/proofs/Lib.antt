@@ -11,3 +11,4 @@ pub mod LeftLaws
 pub mod GrammarLaws
 pub mod StatementLaws
 pub mod RoundLaws
+pub mod SayingLaws

@@ -13,11 +13,11 @@ use Rattle.templates.specs.declared.Object.{Object}
 use Rattle.templates.specs.Grammar.{written, objectsOf, downTo}
 use Rattle.templates.proofs.HeadLaws.{joined}
 use Rattle.scripts.specs.Writing.{allLie, lengthOfFirst, levelAfter, holderAfter, faultFrom, objectsFault}
-use Rattle.scripts.specs.Statement.{Shown, shown, given, readBack, WrittenOf, WritesTheGrammar}
+use Rattle.scripts.specs.Statement.{Shown, shown, given, readBack, WrittenOf}
 use Rattle.scripts.proofs.FaultLaws.{first, place, fault-count}
 use Rattle.scripts.proofs.ShownLaws.{treeShown, spelled, spelled-given, spelled-tree, firstLevel}
 use Rattle.scripts.proofs.AgainLaws.{tree-back}
-use Rattle.scripts.proofs.AcceptLaws.{tree-written, open-outer}
+use Rattle.scripts.proofs.AcceptLaws.{open-outer}
 use Rattle.scripts.proofs.LeftLaws.{first-low}
 use Rattle.scripts.proofs.GrammarLaws.{tree-of}
 
@@ -41,7 +41,7 @@ unfolding downTo readBack shown
 down-back n s [] = refl
 down-back n s (o ∷ os) = ap (λ (b : Bool). leb (o .level) n && b) (down-back n s os)
 
-length-given : (s : List ℕ) (os : List Object) → length (given s os) ≡ length os
+pub length-given : (s : List ℕ) (os : List Object) → length (given s os) ≡ length os
 unfolding given
 length-given s [] = refl
 length-given s (o ∷ os) = ap suc (length-given s os)
@@ -101,6 +101,3 @@ of-tree s os f y =
       so = spelled-given s os ∙ ap spelled e ∙ spelled-tree 1 t;
       same = i;
     }
-
-pub writes-the-grammar : WritesTheGrammar
-writes-the-grammar = record { each-tree = tree-written; accepted = of-tree }

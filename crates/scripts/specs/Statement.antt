@@ -46,8 +46,14 @@ pub record WrittenOf (s : List ℕ) (os : List Object) : Type 0 where
   pub so : bytesOf s os ≡ written tree
   pub same : given s os ≡ readBack (written tree) (objectsOf 1 0 tree)
 
+-- objects that say what a tree says, of whatever source, are accepted and written as that tree
+pub record Saying (s : List ℕ) (os : List Object) (t : Templates) : Type 0 where
+  pub good : objectsFault os ≡ 0
+  pub so : bytesOf s os ≡ written t
+
 pub record WritesTheGrammar : Type 0 where
   pub each-tree : (t : Templates) → Sound t → WrittenAgain t
+  pub each-saying : (s : List ℕ) (os : List Object) (t : Templates) → Sound t → given s os ≡ readBack (written t) (objectsOf 1 0 t) → Saying s os t
   pub accepted : (s : List ℕ) (os : List Object) → objectsFault os ≡ 0 → allLie s os ≡ true → WrittenOf s os
 
 -- the objects that a reading found

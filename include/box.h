@@ -122,7 +122,8 @@ uint8_t box_templates_fault(const uint8_t *input, size_t input_length, uint8_t *
 
 /* The bytes of objects, any number of 10 bytes, written into the buffer from the place on; every other byte of the buffer stays. The data of 86 and
  * 9f18 lie in the source; of a template only tag and level are looked at, and its length is computed. size: BOX_TEMPLATE_SIZE, the number of bytes
- * written, highest byte first. What box_read_templates gave, with its input as the source, is written as the same bytes.
+ * written, highest byte first. The objects that box_read_templates gave, up to the last and without the zeros after it, with its input as the source, are
+ * written as that input.
  * Refusals 1 (objects are not whole ones, the length of size, or data of any 86 or 9f18 outside the source or above 255 bytes), then of the first object at
  * fault in order 16 (its tag; its level, 0 or deeper than the templates open at that point; a 9f18 of another length than 4; a template that would hold
  * more than 255 bytes, counting all that follows it at deeper levels, whatever it is; or there are no objects), 17, 18, and at last 3. */

@@ -10,5 +10,6 @@ pub mod AcceptLaws
 pub mod LeftLaws
 pub mod GrammarLaws
 pub mod StatementLaws
-pub mod RoundLaws
 pub mod SayingLaws
+pub mod RoundLaws
+pub mod Examples

@@ -5,13 +5,14 @@ use mathlib.Core.List.{List, [], _∷_, _++_, append-nil}
 use mathlib.Core.Option.{Option, none, some}
 use Prim.Native.Nat.{ℕ, suc, _+_, _-_, _*_, _/_, _%_, _≤_, _<_}
 use native.Mathlib.Omega.{arith}
-use borrow.Author.Tests.{le-leb, leb-true, leb-false, eqb-true, eq-eqb}
+use borrow.Author.Tests.{le-leb, leb-true, leb-false, eqb-true, eqb-false, eq-eqb}
 use lib.Dec.{eqb, leb}
-use lib.ListN.{length, length-append, replicate}
+use lib.ListN.{length, take, drop, length-append, replicate}
 use lib.Seq.{take-at, drop-at}
 use Rattle.octets.specs.Numbers.{Octets, beOctets, leOctets}
 use Rattle.octets.specs.Laid.{laid}
 use Rattle.octets.proofs.NumberLaws.{be-beOctets}
+use Rattle.octets.proofs.LaidLaws.{laid-there}
 use Rattle.shapes.specs.Length.{largest}
 use Rattle.templates.specs.declared.Object.{Object}
 use Rattle.templates.specs.declared.Read.{Read}
@@ -22,8 +23,8 @@ use Rattle.templates.specs.Statement.{answered, WrittenAs}
 use Rattle.templates.proofs.HeadLaws.{both, head-small, length-object}
 use Rattle.templates.proofs.LentLaws.{length-object-bytes, length-laid-objects}
 use Rattle.templates.proofs.StatementLaws.{reads-the-grammar}
-use Rattle.scripts.specs.Writing.{lies, allLie, ownLength, addedBy, bytesWithin, lengthOfFirst, bytesOf, said, objectsFault, checkNumber, writeNumber, writeAfter}
-use Rattle.scripts.specs.Statement.{readBack, found, Rewritten, ReadAgain, BothWays}
+use Rattle.scripts.specs.Writing.{lies, allLie, ownLength, addedBy, bytesWithin, lengthOfFirst, bytesOf, said, objectsFault, checkNumber, writeNumber, writeSize, writeAfter}
+use Rattle.scripts.specs.Statement.{given, readBack, found, Rewritten, placedBytes, ReadAgain, BothWays}
 use Rattle.scripts.proofs.FromLaws.{same-object}
 use Rattle.scripts.proofs.FaultLaws.{accepted}
 use Rattle.scripts.proofs.WithinLaws.{within-shut, within-open, within-none}
@@ -32,6 +33,7 @@ use Rattle.scripts.proofs.AgainLaws.{tree-within, tree-lie}
 use Rattle.scripts.proofs.AcceptLaws.{down-split, tree-written}
 use Rattle.scripts.proofs.LeftLaws.{data-most}
 use Rattle.scripts.proofs.StatementLaws.{of-tree}
+use Rattle.scripts.proofs.SayingLaws.{saying}
 
 -- an object whose numbers fit their bytes is said by them
 record Small (o : Object) : Type 0 where
@@ -215,10 +217,13 @@ module _ (t : Templates) (x : List ℕ) (w : WrittenAs t x) (out : List ℕ) (p 
       ∙ ap (λ (y : List ℕ). cond (leb (p + length y) (length out)) 0 3) is-again
       ∙ ap (λ (b : Bool). cond b 0 3) (le-leb _ _ h)
 
-  is-buffer : writeAfter lent x out p ≡ laid out p x
-  unfolding writeAfter
-  is-buffer =
-      ap (λ (k : ℕ). cond (eqb k 0) (laid out p (bytesOf x (said lent))) out) is-number ∙ ap (laid out p) is-again
+is-size : (b s out : List ℕ) (p : ℕ) → writeNumber b s out p ≡ 0 → writeSize b s out p ≡ length (bytesOf s (said b))
+unfolding writeSize
+is-size b s out p e = simp (eq-eqb _ 0 e)
+
+is-after : (b s out : List ℕ) (p : ℕ) → writeNumber b s out p ≡ 0 → writeAfter b s out p ≡ laid out p (bytesOf s (said b))
+unfolding writeAfter
+is-after b s out p e = simp (eq-eqb _ 0 e)
 
 written-read : (x : List ℕ) → Octets x → reading x .code ≡ 0 → (out : List ℕ) (p : ℕ) → p + length x ≤ length out → Rewritten x out p
 written-read x o e out p h =
@@ -226,34 +231,60 @@ written-read x o e out p h =
     let t = d .tree in
     let w = d .written-as in
     let f : laidObjects (found (reading x)) ≡ laidObjects (objectsOf 1 0 t) = ap laidObjects (found-tree t x w) in
+    let n = is-number t x w out p h in
     record {
-      number = ap (λ (b : List ℕ). writeNumber b x out p) f ∙ is-number t x w out p h;
-      buffer = ap (λ (b : List ℕ). writeAfter b x out p) f ∙ is-buffer t x w out p h;
+      number = ap (λ (b : List ℕ). writeNumber b x out p) f ∙ n;
+      size = ap (λ (b : List ℕ). writeSize b x out p) f ∙ is-size (laidObjects (objectsOf 1 0 t)) x out p n ∙ ap length (is-again t x w out p h);
+      buffer = ap (λ (b : List ℕ). writeAfter b x out p) f ∙ is-after (laidObjects (objectsOf 1 0 t)) x out p n ∙ ap (laid out p) (is-again t x w out p h);
     }
 
 -- what is written is read
-write-checked : (b s out : List ℕ) (p : ℕ) → writeNumber b s out p ≡ 0 → checkNumber b s ≡ 0
-unfolding writeNumber
-write-checked b s out p e = go (eqb (checkNumber b s) 0) refl e
-  where
-    go : (x : Bool) → eqb (checkNumber b s) 0 ≡ x → cond x (cond (leb (p + length (bytesOf s (said b))) (length out)) 0 3) (checkNumber b s) ≡ 0
-        → checkNumber b s ≡ 0
-    go true i z = eqb-true _ _ i
-    go false i z = z
+record Checked (b s out : List ℕ) (p : ℕ) : Type 0 where
+  good : checkNumber b s ≡ 0
+  room : p + length (bytesOf s (said b)) ≤ length out
 
-read-written : (b s out : List ℕ) (p : ℕ) → writeNumber b s out p ≡ 0 → ReadAgain b s (bytesOf s (said b))
-unfolding answered
+write-checked : (b s out : List ℕ) (p : ℕ) → writeNumber b s out p ≡ 0 → Checked b s out p
+unfolding writeNumber
+write-checked b s out p e = go (eqb (checkNumber b s) 0) refl (leb (p + length (bytesOf s (said b))) (length out)) refl e
+  where
+    go : (x : Bool) → eqb (checkNumber b s) 0 ≡ x → (y : Bool) → leb (p + length (bytesOf s (said b))) (length out) ≡ y
+        → cond x (cond y 0 3) (checkNumber b s) ≡ 0 → Checked b s out p
+    go true i true j z = record { good = eqb-true _ _ i; room = leb-true _ _ j }
+    go true i false j z = absurd (omega (arith, z))
+    go false i y j z = absurd (eqb-false _ _ i z)
+
+read-written : (b s out : List ℕ) (p : ℕ) → writeNumber b s out p ≡ 0 → ReadAgain b s out p
+unfolding answered placedBytes
 read-written b s out p e =
-    let a = accepted b s (write-checked b s out p e) in
+    let c = write-checked b s out p e in
+    let a = accepted b s (c .good) in
     let g = of-tree s (said b) (a .good) (a .lie) in
     let t = g .tree in
     let y = bytesOf s (said b) in
+    let f = is-after b s out p e in
+    let i : placedBytes b s out p ≡ y =
+    ap₂ (λ (k : ℕ) (z : List ℕ). take k (drop p z)) (is-size b s out p e) f ∙ laid-there out p y (c .room)
+    in
     let w : WrittenAs t y = record { sound = g .sound; so = sym (g .so) } in
     record {
-      number = ap (λ (r : Read). r .code) (reads-the-grammar .each-tree t y w);
-      same = ap (readBack y) (found-tree t y w) ∙ ap (λ (z : List ℕ). readBack z (objectsOf 1 0 t)) (g .so) ∙ sym (g .same);
+      number = ap (λ (z : List ℕ). reading z .code) i ∙ ap (λ (r : Read). r .code) (reads-the-grammar .each-tree t y w);
+      same =
+          ap (λ (z : List ℕ). readBack z (found (reading z))) i
+          ∙ ap (readBack y) (found-tree t y w) ∙ ap (λ (z : List ℕ). readBack z (objectsOf 1 0 t)) (g .so) ∙ sym (g .same);
+      others = f ∙ ap (laid out p) (sym i);
     }
+
+-- what says what a tree says is written
+written-when : (b s out : List ℕ) (p : ℕ) (t : Templates) → Sound t → length b % 10 ≡ 0 → allLie s (said b) ≡ true
+    → given s (said b) ≡ readBack (written t) (objectsOf 1 0 t) → p + length (written t) ≤ length out → writeNumber b s out p ≡ 0
+unfolding writeNumber checkNumber
+written-when b s out p t w m y e h =
+    let g = saying s (said b) t w e in
+    let c : checkNumber b s ≡ 0 = ap₂ (λ (u v : Bool). cond (u && v) (objectsFault (said b)) 1) (eq-eqb _ _ m) y ∙ g .good in
+    ap (λ (k : ℕ). cond (eqb k 0) (cond (leb (p + length (bytesOf s (said b))) (length out)) 0 3) k) c
+    ∙ ap (λ (z : List ℕ). cond (leb (p + length z) (length out)) 0 3) (g .so)
+    ∙ ap (λ (z : Bool). cond z 0 3) (le-leb _ _ h)
 
 -- Wish 6: reading and writing undo each other
 pub both-ways : BothWays
-both-ways = record { read-written = read-written; written-read = written-read }
+both-ways = record { read-written = read-written; written-read = written-read; written-when = written-when }

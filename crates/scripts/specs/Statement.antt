@@ -1,10 +1,10 @@
 -- What a writer of script templates is to be, said by the grammar: "writing again what was read gives the same bytes", and what is written is a tree that shows
 -- "the same tags, levels, lengths and data in the same order". Assumes nothing.
-use Prim.Native.Nat.{ℕ, _+_, _≤_}
+use Prim.Native.Nat.{ℕ, _+_, _%_, _≤_}
 use mathlib.Core.Path.{_≡_}
 use mathlib.Core.Bool.{true}
 use mathlib.Core.List.{List, [], _∷_}
-use lib.ListN.{length, take}
+use lib.ListN.{length, take, drop}
 use Rattle.octets.specs.Numbers.{Octets}
 use Rattle.octets.specs.Laid.{laid}
 use Rattle.templates.specs.declared.Object.{Object}
@@ -12,7 +12,7 @@ use Rattle.templates.specs.declared.Read.{Read}
 use Rattle.templates.specs.Grammar.{Templates, written, objectsOf, Sound}
 use Rattle.templates.specs.Reading.{reading}
 use Rattle.templates.specs.Lent.{laidObjects}
-use Rattle.scripts.specs.Writing.{allLie, lengthOfFirst, dataIn, bytesOf, objectsFault, said, writeNumber, writeAfter}
+use Rattle.scripts.specs.Writing.{allLie, lengthOfFirst, dataIn, bytesOf, objectsFault, said, writeNumber, writeSize, writeAfter}
 
 -- what an object of length n says, wherever its data stand; a template has no data of its own
 pub record Shown : Type 0 where
@@ -63,14 +63,23 @@ found r = take (r .count) (r .objects)
 -- x is accepted, its objects are lent with x itself for the source: they are written as x
 pub record Rewritten (x out : List ℕ) (at : ℕ) : Type 0 where
   pub number : writeNumber (laidObjects (found (reading x))) x out at ≡ 0
+  pub size : writeSize (laidObjects (found (reading x))) x out at ≡ length x
   pub buffer : writeAfter (laidObjects (found (reading x))) x out at ≡ laid out at x
 
--- what is written of objects b is read as y, which says the same
-pub record ReadAgain (b s y : List ℕ) : Type 0 where
-  pub number : reading y .code ≡ 0
-  pub same : readBack y (found (reading y)) ≡ given s (said b)
+-- what stands in the buffer at the place, as many bytes as are said to be written
+unfoldable pub placedBytes : List ℕ → List ℕ → List ℕ → ℕ → List ℕ
+placedBytes b s out at = take (writeSize b s out at) (drop at (writeAfter b s out at))
 
--- "Reading what we wrote gives the same objects, and writing again what was read gives the same bytes."
+-- it is read, says the same as the objects b, and no other byte of the buffer is another
+pub record ReadAgain (b s out : List ℕ) (at : ℕ) : Type 0 where
+  pub number : reading (placedBytes b s out at) .code ≡ 0
+  pub same : readBack (placedBytes b s out at) (found (reading (placedBytes b s out at))) ≡ given s (said b)
+  pub others : writeAfter b s out at ≡ laid out at (placedBytes b s out at)
+
+-- "Reading what we wrote gives the same objects, and writing again what was read gives the same bytes."; and whole objects whose data lie in the source are
+-- written if they say what a tree says that has room
 pub record BothWays : Type 0 where
-  pub read-written : (b s out : List ℕ) (at : ℕ) → writeNumber b s out at ≡ 0 → ReadAgain b s (bytesOf s (said b))
+  pub read-written : (b s out : List ℕ) (at : ℕ) → writeNumber b s out at ≡ 0 → ReadAgain b s out at
   pub written-read : (x : List ℕ) → Octets x → reading x .code ≡ 0 → (out : List ℕ) (at : ℕ) → at + length x ≤ length out → Rewritten x out at
+  pub written-when : (b s out : List ℕ) (at : ℕ) (t : Templates) → Sound t → length b % 10 ≡ 0 → allLie s (said b) ≡ true
+      → given s (said b) ≡ readBack (written t) (objectsOf 1 0 t) → at + length (written t) ≤ length out → writeNumber b s out at ≡ 0

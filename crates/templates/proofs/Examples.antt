@@ -4,12 +4,14 @@ use mathlib.Core.Path.{_≡_, refl}
 use mathlib.Core.Bool.{Bool, true, _&&_}
 use mathlib.Core.List.{List, [], _∷_, _++_}
 use lib.ListN.{take, replicate}
+use Rattle.octets.specs.Numbers.{leOctets, beOctets}
 use Rattle.octets.specs.Same.{same}
 use Rattle.shapes.specs.Length.{largest, largestShort, lengthField, fieldSays}
 use Rattle.shapes.specs.Shape.{lengthOfUnder}
 use Rattle.templates.specs.declared.Object.{Object}
 use Rattle.templates.specs.declared.Read.{Read}
 use Rattle.templates.specs.Grammar.{tagBytes, headSize, objectAt}
+use Rattle.templates.specs.Lent.{objectBytes}
 use Rattle.templates.specs.Reading.{stands, after, isTemplate, within, tagIn, ahead, headFor, headOf, lengthFits, good, judged, noObject, begun, kept, stopped, entered, objectRead, onward, readFor, readAll, reading}
 
 -- number and place of the fault, and of each object its tag, level, place and length
@@ -66,6 +68,10 @@ abbrev pub empties : ℕ → List ℕ
 empties zero = []
 empties (suc n) = 0x86 ∷ 0 ∷ empties n
 
+abbrev pub tops : ℕ → List ℕ
+tops zero = []
+tops (suc n) = 0x71 ∷ 0 ∷ tops n
+
 -- number and place alone
 abbrev pub faults : List Example → Bool
 faults [] = true
@@ -76,6 +82,18 @@ pub faulted-so : faults (
     record { bytes = 0x71 ∷ 62 ∷ empties 31; answer = 0 ∷ 0 ∷ [] }
     ∷ record { bytes = 0x71 ∷ 64 ∷ empties 32; answer = 18 ∷ 64 ∷ [] }
     ∷ record { bytes = 0x71 ∷ 64 ∷ (empties 31 ++ (0x87 ∷ 0 ∷ [])); answer = 16 ∷ 64 ∷ [] }
+    -- 28 empty templates, four e1 and then a 33rd object at level five: 17
+    ∷ record { bytes = tops 28 ++ (0xe1 ∷ 8 ∷ 0xe1 ∷ 6 ∷ 0xe1 ∷ 4 ∷ 0xe1 ∷ 2 ∷ 0x71 ∷ 0 ∷ []); answer = 17 ∷ 64 ∷ [] }
+    -- two at fault, the first in byte order: in a template and after it, 17 and then 16, 18 and then 16, the holder's and then what it holds
+    ∷ record { bytes = 0x71 ∷ 2 ∷ 0x87 ∷ 0 ∷ 0x55 ∷ 0 ∷ []; answer = 16 ∷ 2 ∷ [] }
+    ∷ record { bytes = 0xe1 ∷ 8 ∷ 0xe1 ∷ 6 ∷ 0xe1 ∷ 4 ∷ 0xe1 ∷ 2 ∷ 0x71 ∷ 0 ∷ 0x86 ∷ 0 ∷ []; answer = 17 ∷ 8 ∷ [] }
+    ∷ record { bytes = 0x86 ∷ 0 ∷ 0xe1 ∷ 8 ∷ 0xe1 ∷ 6 ∷ 0xe1 ∷ 4 ∷ 0xe1 ∷ 2 ∷ 0x71 ∷ 0 ∷ []; answer = 16 ∷ 0 ∷ [] }
+    ∷ record { bytes = 0x71 ∷ 66 ∷ (empties 32 ++ (0x87 ∷ 0 ∷ [])); answer = 18 ∷ 64 ∷ [] }
+    ∷ record { bytes = 0x71 ∷ 5 ∷ 0x87 ∷ 0 ∷ []; answer = 16 ∷ 0 ∷ [] }
+    -- an identifier of 5 bytes; an empty e1; the four levels
+    ∷ record { bytes = 0x71 ∷ 8 ∷ 0x9f ∷ 0x18 ∷ 5 ∷ 1 ∷ 2 ∷ 3 ∷ 4 ∷ 5 ∷ []; answer = 16 ∷ 2 ∷ [] }
+    ∷ record { bytes = 0xe1 ∷ 0 ∷ []; answer = 0 ∷ 0 ∷ [] }
+    ∷ record { bytes = 0xe1 ∷ 6 ∷ 0xe1 ∷ 4 ∷ 0x72 ∷ 2 ∷ 0x86 ∷ 0 ∷ []; answer = 0 ∷ 0 ∷ [] }
     -- the lengths at which the field changes
     ∷ record { bytes = 0x71 ∷ 0x81 ∷ 0x81 ∷ 0x86 ∷ 0x7f ∷ replicate 127 0; answer = 0 ∷ 0 ∷ [] }
     ∷ record { bytes = 0x71 ∷ 0x81 ∷ 0x83 ∷ 0x86 ∷ 0x81 ∷ 0x80 ∷ replicate 128 0; answer = 0 ∷ 0 ∷ [] }
@@ -84,3 +102,8 @@ pub faulted-so : faults (
     ∷ []) ≡ true
 unfolding same largest largestShort lengthField fieldSays lengthOfUnder tagBytes headSize objectAt stands after isTemplate within tagIn ahead headFor headOf lengthFits good judged noObject begun kept stopped entered objectRead onward readFor readAll reading
 faulted-so = refl
+
+-- an object as ten bytes
+pub laid-so : objectBytes (record { tag = 0x9f18; level = 2; length = 4; place = 0x01020304 }) ≡ 0x9f ∷ 0x18 ∷ 0 ∷ 2 ∷ 0 ∷ 4 ∷ 1 ∷ 2 ∷ 3 ∷ 4 ∷ []
+unfolding objectBytes beOctets leOctets
+laid-so = refl

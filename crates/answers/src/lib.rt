@@ -1,10 +1,12 @@
 // 01's numbered refusals, and the answers of eight and of 32 bytes that carry their numbers.
+#![tactic(auto)]
+
 ghost use Rattle.std.specs.Prelude.{◌≡◌};
 ghost use Rattle.answers.specs.Refusals.{number as number_of};
 ghost use Rattle.answers.specs.Answers.{no_block, no_key};
 
 // Why a call is refused, in the order of the papers' numbers.
-#[derive(Drop)]
+#[derive(Clone, Copy)]
 pub enum Refusal {
     Input,
     CardNumber,
@@ -111,14 +113,14 @@ impl Refusal {
 }
 
 // Eight bytes: a block, a cryptogram, a seed; or a refusal's number and zeros.
-#[derive(Drop)]
+#[derive(Clone, Copy)]
 pub struct BlockAnswer {
     pub code: u8,
     pub bytes: [u8; 8],
 }
 
 // A key or a code of 32 bytes, or a refusal's number and zeros.
-#[derive(Drop)]
+#[derive(Clone, Copy)]
 pub struct KeyAnswer {
     pub code: u8,
     pub bytes: [u8; 32],

@@ -1,4 +1,6 @@
 // A message taken in blocks by a step, at once or in parts: definitions and laws for the code, the hash and HMAC, and the test of a total.
+#![tactic(auto)]
+
 ghost use Rattle.std.specs.Prelude.{◌≡◌};
 ghost use Rattle.blocks.specs.Parts.{fits as fitsAfter};
 

@@ -1,4 +1,5 @@
 // The soft card: its record, and the calls, each of which takes the record and hands back the record after it.
+#![tactic(auto)]
 ghost use Rattle.std.specs.Prelude.{◌≡◌, ◌<◌, length};
 ghost use Rattle.derive.specs.Derivation.{derived, card_label};
 ghost use Rattle.pin.specs.Answers.{decipher_pin};
@@ -24,7 +25,7 @@ pub use transaction::{PendingMark, Phase, Transaction};
 pub const FULL_TRIES: u8 = 3;
 
 // The record.
-#[derive(Drop)]
+#[derive(Clone, Copy)]
 pub struct Card {
     // the master keys
     pub ac: [u8; 32],
@@ -44,7 +45,7 @@ pub struct Card {
 
 // What a call hands back: the record after it, its number, and for an accepted Open the kind's number (80 or 00) and the cryptogram, for
 // accepted Counters the enciphered block; zeros otherwise.
-#[derive(Drop)]
+#[derive(Clone, Copy)]
 pub struct Reply {
     pub card: Card,
     pub code: u8,

@@ -1,28 +1,27 @@
 -- The code under way: the cutting at blocks of eight, the ways through the functions, and what they answer. Assumes nothing.
 use mathlib.Core.Path.{◌≡◌, refl, sym, ap, ap₂, subst, ◌∙◌}
-use mathlib.Core.Bool.{Bool, true, false, ◌&&◌, not, cond, and-false}
+use mathlib.Core.Bool.{Bool, true, false, not, cond, and-false}
 use mathlib.Core.List.{List, [], ◌∷◌, ◌++◌, append_assoc, append-nil}
 use Prim.Native.Nat.{ℕ, suc, ◌+◌, ◌-◌, ◌*◌, ◌/◌, ◌%◌, ◌<◌, ◌≤◌}
 use native.Mathlib.Nat.{mod-eq_of_lt, zero-add}
 use native.Mathlib.Numerals.{add-one}
 use native.Mathlib.Omega.{arith}
 use borrow.Author.Tests.{eqb-true, eqb-false, eq-eqb, ne_eqb, le-leb, lt-leb}
-use lib.Dec.{lit<, eqb, leb}
+use lib.Dec.{lit<, eqb}
 use lib.ListN.{length, take, drop, set, get_or, replicate, length-append, length-drop, take-append-drop}
 use lib.Seq.{set_at, length-take-le, take_all, take_at, take-suc, drop-length, drop-drop}
 use Rattle.octets.specs.Numbers.{le_octets}
 use Rattle.octets.specs.Lengths.{key_fits}
 use Rattle.blocks.specs.Blocks.{absorbed, tail}
 use Rattle.blocks.specs.Parts.{filled, fits, fitting, poured, counted, CutAnyWay}
-use Rattle.blocks.proofs.Laws.{absorbed_step, absorbed_end, tail_step, tail_end, tail_short, tail_whole}
+use Rattle.blocks.proofs.Laws.{absorbed_step, absorbed_end, tail_end, tail_short, tail_whole}
 use Rattle.blocks.proofs.PartLaws.{held_filled, Keeps, refused, accepted, total_poured, poured_none, poured_poured, settled_none, cut_any_way}
 use Rattle.gost.specs.declared.Halves.{Halves}
 use Rattle.gost.specs.Gost.{rounds, halves, subkeys}
 use Rattle.cipher.specs.declared.Coding.{Coding}
-use Rattle.cipher.specs.declared.CodeAnswer.{CodeAnswer}
 use Rattle.cipher.specs.declared.CodeFed.{CodeFed}
 use Rattle.cipher.specs.Code.{added, code_step, start, state, code_of}
-use Rattle.cipher.specs.Answers.{string_fits, no_code, coded_with, coded}
+use Rattle.cipher.specs.Answers.{no_code, coded_with, coded}
 use Rattle.cipher.proofs.AnswerLaws.{no_octets, no_whole, string_fits_lem, code_key}
 use Rattle.cipher.specs.Coding.{coding_of, held, code_way, coding_begun, code_begun, code_fed, is_whole, code_ended}
 

@@ -2,7 +2,7 @@
 use Rattle.std.specs.Prelude.{ℕ, ◌%◌, Bool, ◌&&◌, cond, List, [], eqb, leb, length, take, replicate}
 use Rattle.octets.specs.Lengths.{key_fits}
 use Rattle.octets.specs.Numbers.{le_octets}
-use Rattle.blocks.specs.Parts.{Way, filled, poured, part_number, after}
+use Rattle.blocks.specs.Parts.{Way, filled, part_number, after}
 use Rattle.gost.specs.declared.Halves.{Halves}
 use Rattle.gost.specs.Gost.{subkeys}
 use Rattle.answers.specs.declared.Refusal.TheVariants.{Input}

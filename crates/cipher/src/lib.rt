@@ -1,5 +1,7 @@
 // GOST 28147-89 (RFC 5830) with the substitution of RFC 7836 (id-tc26-gost-28147-param-Z): simple replacement both ways and
 // the 16-round code, by the rounds of `gost`. The compiled program has no branch on a key or on data.
+#![tactic(auto)]
+
 ghost use Rattle.std.specs.Prelude.{◌≡◌, ◌+◌, ◌<◌, ◌≤◌, length, take, drop, [], ◌∷◌, ◌++◌};
 ghost use Rattle.octets.specs.Numbers.{le};
 ghost use Rattle.blocks.specs.Blocks.{absorbed};
@@ -16,14 +18,14 @@ pub use gost::Halves;
 use gost::{eight, reversed};
 
 // An authentication code, or refusal 1 and zeros.
-#[derive(Drop)]
+#[derive(Clone, Copy)]
 pub struct CodeAnswer {
     pub code: u8,
     pub bytes: [u8; 4],
 }
 
 // The code under way: the first fill bytes of the buffer are not yet a block, and total bytes were fed.
-#[derive(Drop)]
+#[derive(Clone, Copy)]
 pub struct Coding {
     pub subkeys: [u32; 8],
     pub halves: Halves,
@@ -33,7 +35,7 @@ pub struct Coding {
 }
 
 // A code that was begun or fed: 0, or refusal 1 and the state as it was.
-#[derive(Drop)]
+#[derive(Clone, Copy)]
 pub struct CodeFed {
     pub code: u8,
     pub state: Coding,

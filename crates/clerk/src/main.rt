@@ -1,5 +1,6 @@
 // The clerk's program: the trace on standard input is answered on standard output. Blocks of up to 65,536 bytes are read, and the answers to
 // the lines that a block completes are written before the next is read.
+#![tactic(auto)]
 ghost use Rattle.std.specs.Prelude.{◌≤◌, length, ◌≡◌, true};
 ghost use Rattle.lines.specs.Said.{longest_answer};
 ghost use Rattle.trace.specs.Feeding.{after_all};
@@ -8,7 +9,7 @@ use libc::{STDIN_FILENO, STDOUT_FILENO};
 use trace::Trace;
 
 // The trace after a block, and whether all its answers were written.
-#[derive(Drop)]
+#[derive(Clone, Copy)]
 struct Went {
     trace: Trace,
     on: bool,

@@ -1,5 +1,5 @@
 -- What the entry points answer, for every input: 0 and the cryptogram, or refusal 1 of 01 and zeros. Assumes nothing.
-use Rattle.std.specs.Prelude.{ℕ, ◌≡◌, Bool, ◌&&◌, ◌||◌, cond, List, [], ◌∷◌, eqb, length, replicate}
+use Rattle.std.specs.Prelude.{ℕ, ◌≡◌, Bool, ◌&&◌, ◌||◌, cond, List, [], ◌∷◌, eqb, length}
 use Rattle.gost.specs.Gost.{subkeys}
 use Rattle.octets.specs.Lengths.{key_fits}
 use Rattle.answers.specs.declared.Refusal.TheVariants.{Input}

@@ -1,4 +1,6 @@
 // Application cryptograms ARQC, TC and AAC, and the issuer's ARPC (R 1323565.1.009).
+#![tactic(auto)]
+
 ghost use Rattle.std.specs.Prelude.{◌≡◌, ◌∷◌, ◌++◌, length, replicate};
 ghost use Rattle.gost.specs.Gost.{subkeys};
 ghost use Rattle.cryptogram.specs.Data.{marked};
@@ -8,7 +10,7 @@ ghost use Rattle.cryptogram.specs.Answers.{cryptogram_answer, arpc_answer, kind_
 use answers::{BlockAnswer, Refusal, no_block};
 
 // The kind of a cryptogram that answers the first command.
-#[derive(Drop)]
+#[derive(Clone, Copy)]
 pub enum Kind {
     Arqc,
     Tc,
@@ -16,7 +18,7 @@ pub enum Kind {
 }
 
 // What a number names: a kind, or none, which is refusal 1.
-#[derive(Drop)]
+#[derive(Clone, Copy)]
 pub enum KindRead {
     Known(Kind),
     Unknown,

@@ -1,19 +1,16 @@
 -- HMAC under way: a case of the cutting, and what its functions answer. Assumes nothing.
 use mathlib.Core.Path.{◌≡◌, refl, sym, ap, ap₂, subst, ◌∙◌}
 use mathlib.Core.Bool.{Bool, true, false, cond}
-use mathlib.Core.List.{List, [], ◌++◌}
+use mathlib.Core.List.{List, []}
 use Prim.Native.Nat.{ℕ, ◌+◌}
-use native.Mathlib.Nat.{zero-add}
 use borrow.Author.Tests.{eq-eqb, ne_eqb}
 use lib.Dec.{eqb}
 use lib.ListN.{length}
 use Rattle.octets.specs.Lengths.{key_fits}
-use Rattle.blocks.specs.Parts.{Way, fits, part_number, poured, counted, after, CutAnyWay}
+use Rattle.blocks.specs.Parts.{fits, part_number, poured, counted, after, CutAnyWay}
 use Rattle.blocks.proofs.PartLaws.{Keeps, settled_poured, cut_any_way}
 use Rattle.hash.specs.declared.State.{State}
 use Rattle.hash.specs.declared.Fed.{Fed}
-use Rattle.hash.specs.declared.Core.{Core}
-use Rattle.hash.specs.Hash.{hash256}
 use Rattle.hash.specs.States.{state_of, hash_way, begun, poured_into, fed, ended}
 use Rattle.hash.proofs.Laws.{hash_keeps, total_poured_into, ended_total}
 use Rattle.derive.specs.declared.Started.{Started}

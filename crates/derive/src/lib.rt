@@ -1,4 +1,6 @@
 // HMAC with GOST R 34.11-2012 (RFC 7836), and the one derivation of keys on it.
+#![tactic(auto)]
+
 ghost use Rattle.std.specs.Prelude.{◌≡◌, length};
 ghost use Rattle.derive.specs.Hmac.{key_pad};
 ghost use Rattle.derive.specs.Derivation.{string as stringOf, card_label};
@@ -13,14 +15,14 @@ use hash::State;
 use rounds::lay;
 
 // The inner and the outer hash of a key, started.
-#[derive(Drop)]
+#[derive(Clone, Copy)]
 pub struct Started {
     pub inner: State,
     pub outer: State,
 }
 
 // An HMAC that was begun or fed: 0, or refusal 1 and the state as it was.
-#[derive(Drop)]
+#[derive(Clone, Copy)]
 pub struct MacFed {
     pub code: u8,
     pub state: Started,

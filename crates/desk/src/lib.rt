@@ -1,5 +1,6 @@
 // The issuer's desk (Wish 7): the issuer's master keys, how card digits are taken, and the table of the cards that it holds. It is built on what the crates
 // below promise and on nothing else of them. Adding, forgetting and checking take the desk and hand back the desk after them.
+#![tactic(auto)]
 mod script;
 
 ghost use Rattle.std.specs.Prelude.{◌≡◌, true, ◌≤◌, length};
@@ -17,7 +18,7 @@ use cryptogram::Kind;
 use message::Listed;
 use table::{CardId, Entry};
 
-#[derive(Drop)]
+#[derive(Clone, Copy)]
 pub struct Desk {
     // the issuer's master keys
     pub ac: [u8; 32],
@@ -29,14 +30,14 @@ pub struct Desk {
 }
 
 // The desk after an adding or a forgetting, and its number.
-#[derive(Drop)]
+#[derive(Clone, Copy)]
 pub struct Told {
     pub desk: Desk,
     pub code: u8,
 }
 
 // The desk after a checking, its number, and the ARPC; zeros where it is refused.
-#[derive(Drop)]
+#[derive(Clone, Copy)]
 pub struct Checked {
     pub desk: Desk,
     pub code: u8,

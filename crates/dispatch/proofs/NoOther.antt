@@ -65,7 +65,9 @@ module _ (b : AnyBox) (same : Same b ours) where
   all_go : {h : HeldBy b} {g : HeldBy ours} (fs : List Frame) → Beside b h g → answers_to b h fs ≡ answers_to ours g fs
   unfolding answers_to
   all_go [] k = refl
-  all_go (f ∷ fs) k = let w = goes f k in ap₂ {C = List (List ℕ)} (λ a t. a ∷ t) w.octets (all_go fs w.after)
+  all_go {h = h} {g = g} (f ∷ fs) k =
+      let w = goes f k in
+      ap₂ {C = List (List ℕ)} (λ a t. a ∷ t) w.octets (all_go {h = (answered b h f).after} {g = (answered ours g f).after} fs w.after)
 
 pub no_other_trace : NoOtherTrace
 unfolding traced_by

@@ -1,5 +1,5 @@
 -- Rounds in turn, and rounds undone. Assumes nothing.
-use Rattle.std.proofs.Common.{◌≡◌, ℕ, ◌+◌, ◌%◌, ◌^◌, ◌<◌, List, [], ◌∷◌, ◌++◌, reverse, length, get_or, drop, refl, ap, ◌∙◌, ap₂, append_assoc, add-one, arith, drop-cons}
+use Rattle.std.proofs.Common.{◌≡◌, ℕ, ◌+◌, ◌^◌, ◌<◌, List, [], ◌∷◌, ◌++◌, reverse, length, get_or, drop, refl, ap, ◌∙◌, ap₂, append_assoc, add-one, arith, drop-cons}
 use mathlib.Core.List.{reverse-cons, reverse-append, reverse-reverse}
 use lib.Bits.{xor_lt}
 use Rattle.octets.proofs.Xor.{xor_twice}

@@ -1,10 +1,12 @@
 // GOST 28147-89 (RFC 5830) with the substitution of RFC 7836 (id-tc26-gost-28147-param-Z): the rounds, on halves and subkeys. There
 // is no table in memory, and the compiled program has no branch on a key or on data.
+#![tactic(auto)]
+
 ghost use Rattle.std.specs.Prelude.{◌≡◌, ◌*◌, ◌/◌, ◌%◌, ◌^◌, ◌<◌, reverse};
 ghost use Rattle.gost.specs.Gost.{substituted, rows, mixed, rounds};
 
 // The halves N1 and N2 of a block.
-#[derive(Drop)]
+#[derive(Clone, Copy)]
 pub struct Halves {
     pub n1: u32,
     pub n2: u32,

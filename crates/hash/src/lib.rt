@@ -1,4 +1,6 @@
 // The hash of GOST R 34.11-2012 with 256 bits (RFC 6986), of a message at once or in parts of any length.
+#![tactic(auto)]
+
 ghost use Rattle.std.specs.Prelude.{◌≡◌, [], ◌∷◌, ◌+◌, ◌<◌, ◌≤◌, length, take, drop};
 ghost use Rattle.std.proofs.Math.Seq.{paste};
 ghost use Rattle.octets.specs.Numbers.{le};
@@ -17,7 +19,7 @@ use rounds::{
 };
 
 // What the whole blocks so far have made: h, and the numbers N and Sigma.
-#[derive(Drop)]
+#[derive(Clone, Copy)]
 pub struct Core {
     pub h: [u64; 8],
     pub n: [u64; 8],
@@ -25,7 +27,7 @@ pub struct Core {
 }
 
 // A hash under way: the first fill bytes of the buffer are not yet a block, and total bytes were fed.
-#[derive(Drop)]
+#[derive(Clone, Copy)]
 pub struct State {
     pub core: Core,
     pub buffer: [u8; 64],
@@ -34,7 +36,7 @@ pub struct State {
 }
 
 // A hash that was fed: 0, or refusal 1 and the state as it was.
-#[derive(Drop)]
+#[derive(Clone, Copy)]
 pub struct Fed {
     pub code: u8,
     pub state: State,

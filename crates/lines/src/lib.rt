@@ -1,4 +1,5 @@
 // Lines of the clerk's trace: whether a line's signs are read, and the line that answers it.
+#![tactic(auto)]
 ghost use Rattle.std.specs.Prelude.{◌≡◌, [], ◌∷◌};
 ghost use Rattle.lines.specs.Lines.{legible, hexadecimal, octet_of, hex_text};
 ghost use Rattle.lines.specs.Answers.{holding, nothing, numbered, replied as repliedWith};
@@ -10,14 +11,14 @@ use card::{Card, Reply};
 pub const LONGEST_ANSWER: usize = 21;
 
 // Whether a record exists, and the record; a blank one where none does.
-#[derive(Drop)]
+#[derive(Clone, Copy)]
 pub struct Held {
     pub exists: bool,
     pub card: Card,
 }
 
 // The answer to a line: the record after it, and the answer's line.
-#[derive(Drop)]
+#[derive(Clone, Copy)]
 pub struct Said {
     pub held: Held,
     pub count: u8,

@@ -3,6 +3,8 @@
 // The shape is for the machine code. `word` is called at one place, so that its table stands in the code of `turn_from` once. The loop over the words
 // of the answer stays a loop: a byte is then the lowest of a register that is shifted by 8. Five words go so, and the bytes of the other three are
 // read from memory: a processor has other units for reads than for shifts.
+#![tactic(auto)]
+
 ghost use Rattle.std.specs.Prelude.{◌≡◌, cond, ◌*◌, ◌/◌, ◌<◌, ltb, length, get_or, set, drop};
 ghost use Rattle.std.proofs.lemmas.List.Edits.{sets};
 ghost use Rattle.octets.specs.Numbers.{le_octets};

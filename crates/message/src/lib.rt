@@ -1,4 +1,6 @@
 // Script messages (R 1323565.1.008): their code, opening and wrapping.
+#![tactic(auto)]
+
 ghost use Rattle.std.specs.Prelude.{◌≡◌, true, ◌∷◌, ◌++◌, ◌+◌, ◌≤◌, length, take, replicate};
 ghost use Rattle.shapes.specs.Length.{largest, length_field};
 ghost use Rattle.shapes.specs.Shape.{code_head, place_of, body_size};

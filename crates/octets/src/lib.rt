@@ -1,4 +1,6 @@
 // Numbers as octets, equality of strings, and digits: what more than one crate needs.
+#![tactic(auto)]
+
 ghost use Rattle.std.specs.Prelude.{◌≡◌, [], ◌∷◌, ◌%◌, get_or};
 ghost use Rattle.octets.specs.Numbers.{le, le_octets, be, be_octets};
 ghost use Rattle.octets.specs.Same.{same as alike};

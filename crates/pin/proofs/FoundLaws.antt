@@ -1,16 +1,15 @@
 -- A PIN that was read is a PIN in twelve places, zeros in the unused ones: what a record of it may hold. Assumes nothing.
-use mathlib.Core.Path.{◌≡◌, refl, sym, ap, ◌∙◌, subst}
+use mathlib.Core.Path.{◌≡◌}
 use mathlib.Core.Bool.{Bool, true, false, ◌&&◌, cond}
-use mathlib.Core.List.{List, ◌++◌}
+use mathlib.Core.List.{List}
 use Prim.Native.Nat.{ℕ, ◌-◌}
 use native.Mathlib.Omega.{arith}
 use borrow.Author.Tests.{le-leb}
-use lib.ListN.{length, get_or, drop, replicate}
+use lib.ListN.{length, get_or, drop}
 use Rattle.octets.proofs.DigitLaws.{digits_refilled}
 use Rattle.octets.specs.Lengths.{key_fits}
 use Rattle.gost.specs.Gost.{decipher}
 use Rattle.cipher.specs.Answers.{block_fits}
-use Rattle.pin.specs.declared.PinRead.{PinRead}
 use Rattle.pin.specs.PinBlock.{pin_fits, nibbles, well_formed, pin_of}
 use Rattle.pin.specs.Answers.{found, no_pin, read_block, decipher_pin}
 use Rattle.pin.proofs.BlockLaws.{formed}

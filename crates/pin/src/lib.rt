@@ -1,4 +1,6 @@
 // PIN blocks and counter blocks (R 1323565.1.008, clauses 4.2 and 4.3). Digits of a PIN stand one to a byte.
+#![tactic(auto)]
+
 ghost use Rattle.std.specs.Prelude.{◌≡◌, true, ◌++◌, map, ◌+◌, ◌-◌, ◌*◌, ◌%◌, ◌≤◌, length, take, drop, replicate};
 ghost use Rattle.octets.specs.Digits.{pairs};
 ghost use Rattle.pin.specs.PinBlock.{pin_fits, nibbles, fields, pin_block, well_formed};
@@ -8,7 +10,7 @@ ghost use Rattle.pin.specs.Answers.{no_pin, write_pin, read_block, read_pin, enc
 use answers::{BlockAnswer, Refusal, no_block};
 
 // A PIN in twelve places, zeros in the unused ones, and its count; or a refusal's number and zeros.
-#[derive(Drop)]
+#[derive(Clone, Copy)]
 pub struct PinRead {
     pub code: u8,
     pub pin: [u8; 12],
@@ -16,7 +18,7 @@ pub struct PinRead {
 }
 
 // The counters of a counter block, by their names in 002.
-#[derive(Drop)]
+#[derive(Clone, Copy)]
 pub struct Counters {
     // AC Session Counter
     pub session: u16,

@@ -6,7 +6,7 @@ use lib.ListN.{get_or-append}
 use lib.Seq.{paste, take-paste, drop-paste, length-paste, sets, sets-eq}
 use Rattle.octets.specs.Same.{same}
 use Rattle.octets.proofs.SameLaws.{same_true}
-use Rattle.lps.specs.Vectors.{each, X, LPS}
+use Rattle.lps.specs.Vectors.{X, LPS}
 use Rattle.lps.proofs.Each.{each_equal}
 use Rattle.lps.proofs.Words.{length-LPS}
 use Rattle.rounds.specs.Constants.{C}

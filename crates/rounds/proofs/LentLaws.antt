@@ -4,7 +4,7 @@ use borrow.Author.Tests.{lt-leb}
 use lib.Bits.{bit_xor}
 use lib.ListN.{length-replicate}
 use lib.Seq.{paste, drop-append-add}
-use Rattle.octets.proofs.Parts.{zeros, drop-zeros, elements, elements_part}
+use Rattle.octets.proofs.Parts.{zeros, drop-zeros, elements_part}
 use Rattle.lps.specs.Vectors.{X}
 use Rattle.lps.proofs.Each.{each_equal, each_at}
 use Rattle.rounds.specs.Lent.{vector_at, laid_words}

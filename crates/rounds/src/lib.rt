@@ -1,4 +1,6 @@
 // The round functions of GOST R 34.11-2012 (RFC 6986, section 8) and its sums modulo 2 to the 512, on vectors of eight words, lowest first.
+#![tactic(auto)]
+
 ghost use Rattle.std.specs.Prelude.{◌≡◌, ◌+◌, ◌*◌, ◌^◌, ◌<◌, ◌≤◌, drop};
 ghost use Rattle.octets.specs.Same.{same};
 ghost use Rattle.lps.specs.Vectors.{X};
@@ -200,7 +202,7 @@ pub fn compress_block_over(c: &[[u64; 8]], n: [u64; 8], h: [u64; 8], m: [u64; 8]
     compress_over(c, n, h, m)
 }
 
-#[derive(Drop)]
+#[derive(Clone, Copy)]
 struct Sum {
     value: u64,
     carry: u64,

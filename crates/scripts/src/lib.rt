@@ -1,4 +1,6 @@
 // Script templates written (Wish 6): objects in order, as bytes that the caller lends, to bytes at a place of a lent buffer.
+#![tactic(auto)]
+
 ghost use Rattle.std.specs.Prelude.{◌≡◌, true, ◌++◌, ◌+◌, ◌*◌, ◌/◌, ◌<◌, ◌≤◌, leb, length, take, drop};
 ghost use Rattle.octets.specs.Numbers.{be};
 ghost use Rattle.octets.specs.Laid.{laid};
@@ -11,7 +13,7 @@ use answers::Refusal;
 use templates::{Holder, Object};
 
 // The refusal's number, 0 where there is none, and how many bytes are written.
-#[derive(Drop)]
+#[derive(Clone, Copy)]
 pub struct Written {
     pub code: u8,
     pub size: usize,

@@ -5,11 +5,11 @@ use mathlib.Core.List.{List, [], ◌∷◌}
 use Prim.Native.Nat.{ℕ, ◌+◌, ◌≤◌}
 use native.Mathlib.Omega.{arith}
 use lib.Dec.{lit≤}
-use lib.ListN.{length, get_or, replicate}
+use lib.ListN.{length, get_or}
 use Rattle.shapes.specs.declared.Opened.TheVariants.{Refused}
-use Rattle.shapes.specs.Length.{largest, largest_short, length_field, field_says}
-use Rattle.shapes.specs.Shape.{length_of, length_of_under, place_of_under, tag_fits, code_head, body, body_size_under, tag_of, data_of, body_of, code_in, size_of, size_of_under, shape}
-use Rattle.shapes.specs.Answers.{answer, shaped}
+use Rattle.shapes.specs.Length.{largest, largest_short, length_field}
+use Rattle.shapes.specs.Shape.{length_of, length_of_under, place_of_under, body_size_under, size_of, size_of_under, shape}
+use Rattle.shapes.specs.Answers.{shaped}
 use Rattle.shapes.proofs.LengthLaws.{largest_small, place_small, says_low, says_other}
 use Rattle.shapes.proofs.ShapeLaws.{shape_good}
 use Rattle.shapes.proofs.AnswerLaws.{shape_most}

@@ -5,7 +5,7 @@ ghost use Rattle.shapes.specs.Command.{header_of, tag_for, length_for, is_for, L
 use answers::Refusal;
 
 // What a script command does: sets the PIN, sets the block mark, clears it.
-#[derive(Drop)]
+#[derive(Clone, Copy)]
 pub enum Command {
     SetPin,
     SetMark,
@@ -13,7 +13,7 @@ pub enum Command {
 }
 
 // A listed command, or why it is none.
-#[derive(Drop)]
+#[derive(Clone, Copy)]
 pub enum Listed {
     One(Command),
     Unlisted(Refusal),

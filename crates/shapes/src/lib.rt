@@ -1,4 +1,6 @@
 // The shape of script messages (R 1323565.1.008), and the script commands.
+#![tactic(auto)]
+
 ghost use Rattle.std.specs.Prelude.{◌≡◌, [], ◌∷◌, get_or};
 ghost use Rattle.octets.specs.Same.{same};
 ghost use Rattle.shapes.specs.Shape.{tag_fits, code_head, length_of, place_of};
@@ -11,7 +13,7 @@ mod command;
 pub use command::{Command, Listed};
 
 // The tag, and the place and length of the data in the message; or a refusal's number.
-#[derive(Drop)]
+#[derive(Clone, Copy)]
 pub enum Opened {
     Data {
         tag: u8,

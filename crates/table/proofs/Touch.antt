@@ -1,14 +1,14 @@
 -- What a call about a card touches: it goes by the card's own readings and the room alone, and changes no other card's readings. Assumes nothing.
-use Prim.Native.Nat.{ℕ, suc, ◌+◌, ◌≤◌, ◌<◌}
+use Prim.Native.Nat.{ℕ, suc, ◌+◌, ◌≤◌}
 use native.Mathlib.Omega.{arith}
 use native.Mathlib.Numerals.{add-one}
 use mathlib.Core.Path.{◌≡◌, refl, sym, ap, ap₂, ◌∙◌, subst⁻¹}
 use mathlib.Core.Bool.{Bool, true, false, not, ◌&&◌, ◌||◌, cond, true≢false, false≢true}
-use mathlib.Core.List.{List, [], ◌∷◌, map}
+use mathlib.Core.List.{List, [], ◌∷◌}
 use mathlib.Core.Option.{Option, none, some}
 use lib.Dec.{eqb, ltb}
 use lib.ListN.{length}
-use borrow.Author.Tests.{eq-eqb, ne_eqb, eqb-true, eqb-false, lt-ltb, le-ltb, ltb-true, ltb-false}
+use borrow.Author.Tests.{eq-eqb, eqb-true, lt-ltb, le-ltb, ltb-true, ltb-false}
 use Rattle.octets.specs.Same.{same}
 use Rattle.octets.proofs.SameLaws.{same_true, same_refl}
 use Rattle.table.specs.declared.CardId.{CardId}
@@ -16,8 +16,8 @@ use Rattle.table.specs.declared.Entry.{Entry}
 use Rattle.table.specs.declared.Changed.{Changed}
 use Rattle.table.specs.Table.{same_id, names, held, room, counter_of, readings, held_count}
 use Rattle.table.specs.Calls.{changed, fresh, empty, placed, adding, each, cleared_entry, forgetting, kept_entry, keeping, reading}
-use Rattle.table.specs.Acts.{Use, Act, adds, forgets, uses, Outcome, last_of, kept_in, plainly, used, run}
-use Rattle.table.specs.Seen.{is_some, first, over, over_by, Seen, only, taken, seen, view}
+use Rattle.table.specs.Acts.{Use, Act, adds, forgets, uses, last_of, kept_in, plainly, used, run}
+use Rattle.table.specs.Seen.{is_some, first, over, over_by, only, taken, seen, view}
 
 -- the test is equality
 abbrev mk : List ℕ → ℕ → ℕ → CardId

@@ -1,19 +1,17 @@
 -- A turn of each loop, and one law for each way out. Assumes nothing.
-use Prim.Native.Nat.{ℕ, suc, ◌+◌, ◌-◌, ◌≤◌, ◌<◌}
+use Prim.Native.Nat.{ℕ, suc, ◌+◌, ◌≤◌, ◌<◌}
 use native.Mathlib.Omega.{arith}
 use native.Mathlib.Numerals.{add-one}
-use mathlib.Core.Path.{◌≡◌, refl, sym, ap, ap₂, ◌∙◌}
-use mathlib.Core.Bool.{Bool, true, false, not, ◌&&◌, ◌||◌, cond, and-false, true≢false, false≢true}
+use mathlib.Core.Path.{◌≡◌, refl, sym, ap, ◌∙◌}
+use mathlib.Core.Bool.{Bool, true, false, not, ◌||◌, cond}
 use mathlib.Core.List.{List, [], ◌∷◌, ◌++◌}
-use lib.Dec.{eqb}
-use lib.ListN.{length, get_or, take, drop, set, drop_of_length-le, length-set}
+use lib.ListN.{length, get_or, take, drop, set, drop_of_length-le}
 use lib.Seq.{drop-cons, take-suc-set, drop-set-lt, take_all, append_snoc}
 use borrow.Author.Tests.{eq-eqb, ne_eqb, not-true, not-false}
 use Rattle.octets.specs.Same.{same}
 use Rattle.table.specs.declared.CardId.{CardId}
 use Rattle.table.specs.declared.Entry.{Entry}
 use Rattle.table.specs.declared.Changed.{Changed}
-use Rattle.table.specs.declared.Last.{Last}
 use Rattle.table.specs.Table.{same_id, names, held, room}
 use Rattle.table.specs.Calls.{changed, fresh, empty, placed, adding, each, cleared_entry, forgetting, kept_entry, keeping, reading}
 use Rattle.table.specs.Inner.{free_place}

@@ -1,6 +1,6 @@
 -- What the desk's calls do at the table, whatever else they compute: they add the card, forget it, or use it. A use sees the card's last counter, if any,
 -- gives an answer, and may give a counter to keep: checking and wrapping are uses. Assumes nothing.
-use Rattle.std.specs.Prelude.{ℕ, Bool, true, false, cond, List, [], ◌∷◌}
+use Rattle.std.specs.Prelude.{ℕ, cond, List}
 use Rattle.std.proofs.Math.Option.{Option, none, some}
 use Rattle.answers.specs.declared.Refusal.TheVariants.{UnknownCard}
 use Rattle.answers.specs.Refusals.{number as number_of}

@@ -1,5 +1,5 @@
 -- What is done at a table, for every table (Wish 7: "19 unknown card, 20 card already held, 21 no room"; "a refusal changes no entry"). Assumes nothing.
-use Rattle.std.specs.Prelude.{ℕ, Bool, true, false, cond, List, [], ◌∷◌, replicate}
+use Rattle.std.specs.Prelude.{ℕ, true, false, cond, List, [], ◌∷◌, replicate}
 use Rattle.answers.specs.declared.Refusal.TheVariants.{UnknownCard, AlreadyHeld, TableFull}
 use Rattle.answers.specs.Refusals.{number}
 use Rattle.table.specs.declared.CardId.{CardId}

@@ -1,6 +1,6 @@
 -- A table of places (Wish 7: "It keeps up to 64 cards by number and sequence (absent is 00), each with its last transaction counter"). A table is the
 -- list of its entries; every list is one, also one that holds a card twice. Assumes nothing.
-use Rattle.std.specs.Prelude.{ℕ, ◌+◌, Bool, true, false, not, ◌&&◌, ◌||◌, cond, List, [], ◌∷◌, ◌++◌, eqb}
+use Rattle.std.specs.Prelude.{ℕ, ◌+◌, Bool, false, not, ◌&&◌, ◌||◌, cond, List, [], ◌∷◌, eqb}
 use Rattle.std.proofs.Math.Option.{Option, none, some}
 use Rattle.octets.specs.Same.{same}
 use Rattle.table.specs.declared.CardId.{CardId}

@@ -1,4 +1,6 @@
 // The table of an issuer's desk (Wish 7): 64 places for cards, each with its last transaction counter. No cryptography.
+#![tactic(auto)]
+
 ghost use Rattle.std.specs.Prelude.{◌≡◌};
 ghost use Rattle.table.specs.Table.{same_id, names, held as heldIn};
 ghost use Rattle.table.specs.Calls.{fresh as freshFor, cleared_entry, kept_entry, changed, adding, forgetting, reading, keeping};
@@ -7,7 +9,7 @@ ghost use Rattle.table.specs.Inner.{free_place};
 use answers::Refusal;
 
 // A card by number and sequence: its digits and zeros after them, how many digits there are, and the sequence number (0 where there is none).
-#[derive(Drop)]
+#[derive(Clone, Copy)]
 pub struct CardId {
     pub digits: [u8; 19],
     pub count: u8,
@@ -15,7 +17,7 @@ pub struct CardId {
 }
 
 // A place: whether it holds a card, which, whether a counter was accepted, and the last one.
-#[derive(Drop)]
+#[derive(Clone, Copy)]
 pub struct Entry {
     pub held: bool,
     pub id: CardId,
@@ -24,14 +26,14 @@ pub struct Entry {
 }
 
 // The places after a call, and its number.
-#[derive(Drop)]
+#[derive(Clone, Copy)]
 pub struct Changed {
     pub code: u8,
     pub places: [Entry; 64],
 }
 
 // Whether a card has a last counter, and which; zeros where there is none or the call is refused.
-#[derive(Drop)]
+#[derive(Clone, Copy)]
 pub struct Last {
     pub code: u8,
     pub known: bool,

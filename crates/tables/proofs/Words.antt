@@ -1,6 +1,6 @@
 -- The 2,048 words of the eight tables, and that each is what the formula gives: one test, computed over all of them. A second one says that each
 -- has 64 bits. Assumes nothing.
-use mathlib.Core.Path.{◌≡◌, refl, sym, subst}
+use mathlib.Core.Path.{◌≡◌, refl, sym, subst, ◌∙◌}
 use mathlib.Core.Bool.{Bool, true, false, cond, not}
 use mathlib.Core.List.{List, [], ◌∷◌}
 use Prim.Native.Nat.{ℕ, ◌/◌, ◌%◌, ◌^◌, ◌<◌, ◌≤◌}
@@ -562,3 +562,6 @@ word_small i = by_place (ltb i 2048) refl
     by_place false e =
         subst (λ (w : ℕ). w < 2 ^ 64) (sym (get_or-eq_default words 0 (subst (λ (n : ℕ). n ≤ i) (sym count) (nltb→le i 2048 (subst (λ (t : Bool). T (not t)) (sym e) tt)))))
         (lit< tt)
+
+pub word_after : (i : ℕ) → 2048 ≤ i → 0 ≡ entry_at i
+word_after i h = sym (get_or-eq_default words 0 (subst (λ (n : ℕ). n ≤ i) (sym count) h)) ∙ word_right i

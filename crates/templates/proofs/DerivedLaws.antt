@@ -1,13 +1,13 @@
 -- What is accepted is written of a tree of the grammar. Assumes nothing.
 use mathlib.Core.Path.{◌≡◌, refl, sym, ap, ap₂, subst, ◌∙◌}
-use mathlib.Core.Bool.{Bool, true, false, ◌&&◌, cond}
+use mathlib.Core.Bool.{Bool, true, false}
 use mathlib.Core.List.{List, [], ◌∷◌, ◌++◌}
-use mathlib.Core.Option.{Option, none, some}
+use mathlib.Core.Option.{none, some}
 use Prim.Native.Nat.{ℕ, zero, suc, ◌+◌, ◌≤◌, ◌<◌}
-use native.Mathlib.Nat.{not-suc-le-zero, le_refl}
+use native.Mathlib.Nat.{not-suc-le-zero}
 use native.Mathlib.Omega.{arith}
-use borrow.Author.Tests.{eqb-true, eqb-false, eq-eqb, leb-true, le-leb}
-use lib.Dec.{eqb, leb}
+use borrow.Author.Tests.{eqb-true, eqb-false, eq-eqb, le-leb}
+use lib.Dec.{eqb}
 use lib.ListN.{length, length-append}
 use Rattle.octets.specs.Numbers.{Octets}
 use Rattle.shapes.specs.Length.{largest}
@@ -15,11 +15,11 @@ use Rattle.templates.specs.declared.Holder.{Holder}
 use Rattle.templates.specs.declared.Holder.TheVariants.{Outer, Fresh, Begun}
 use Rattle.templates.specs.declared.Object.{Object}
 use Rattle.templates.specs.declared.Read.{Read}
-use Rattle.templates.specs.Grammar.{Kind, template1, template2, Script, Templates, nothing, script, outer, kind_tag, outer_tag, command_tag, identifier_tag, object, written_identifier, written_commands, written_script, written, identifier_fits, commands_fit, script_fits, fits, head_size, object_at, identifier_objects, command_objects, script_objects, objects_of, down_to}
+use Rattle.templates.specs.Grammar.{Kind, Script, Templates, script, outer, kind_tag, outer_tag, command_tag, identifier_tag, object, written_identifier, written_commands, written_script, written, identifier_fits, commands_fit, script_fits, fits, head_size, object_at, identifier_objects, command_objects, script_objects, objects_of, down_to}
 use Rattle.templates.specs.Reading.{stands, after, is_template, within, tag_in, head_of, length_fits, kept, object_read, onward, read_all}
-use Rattle.templates.proofs.HeadLaws.{both, joined, head_small, length-object}
-use Rattle.templates.proofs.ReadLaws.{read_none, read_step, read_code}
-use Rattle.templates.proofs.TreeLaws.{filled, filled-count, filled-code, Fitting, Next, next, object_read_lem, kind_read, kind_stands, read_data, read_template_lem, script_turn, commands_read, script_read, templates_read, four_small}
+use Rattle.templates.proofs.HeadLaws.{joined, head_small, length-object}
+use Rattle.templates.proofs.ReadLaws.{read_step, read_code}
+use Rattle.templates.proofs.TreeLaws.{filled, filled-count, filled-code, Fitting, next, object_read_lem, kind_read, kind_stands, read_data, read_template_lem, script_turn, script_read, templates_read}
 use Rattle.templates.proofs.ParseLaws.{commands_in, script_in, templates_in, commands_none, templates_none, commands_of, templates_of, kind_parsed, script_of, script_plain, identifier_some, tag_is, some_is, Front, front, InOuter, a_script, an_outer, in_outer, fresh_command, in_begun}
 
 -- an accepted reading begins with an accepted object, which is good

@@ -1,21 +1,18 @@
 -- Tag and length field of an object: what is written is read, and what is read is what is written. Assumes nothing.
-use mathlib.Core.Path.{◌≡◌, refl, sym, ap, ap₂, subst, ◌∙◌}
+use mathlib.Core.Path.{◌≡◌, refl, sym, ap, ap₂, ◌∙◌}
 use mathlib.Core.Bool.{Bool, true, false, ◌&&◌, cond, true≢false, and-eq-true_iff}
 use mathlib.Core.List.{List, [], ◌∷◌, ◌++◌, append_assoc}
-use Prim.Native.Nat.{ℕ, suc, ◌+◌, ◌-◌, ◌^◌, ◌≤◌, ◌<◌}
+use Prim.Native.Nat.{ℕ, ◌+◌, ◌-◌, ◌^◌, ◌≤◌, ◌<◌}
 use native.Mathlib.Omega.{arith}
-use borrow.Author.Tests.{eqb-true, eqb-false, eq-eqb, ne_eqb}
+use borrow.Author.Tests.{eqb-true, eqb-false, ne_eqb}
 use lib.Dec.{eqb}
-use lib.ListN.{length, get_or, take, drop, length-append, length-drop, take-append-drop}
+use lib.ListN.{length, get_or, take, drop, length-append, length-drop}
 use lib.Seq.{take_all, take_at, drop_at}
-use Rattle.octets.specs.Numbers.{Octets}
-use Rattle.octets.proofs.Parts.{elements_part, octets-drop}
 use Rattle.shapes.specs.Length.{largest, length_field}
 use Rattle.shapes.specs.Shape.{length_of, place_of}
-use Rattle.shapes.proofs.LengthLaws.{place_is, place_small, place_short, place_long, Form, short, long, form, field_read, read_field}
+use Rattle.shapes.proofs.LengthLaws.{place_is, place_small, place_short, place_long, Form, short, long, form, read_field}
 use Rattle.templates.specs.declared.Holder.{Holder}
 use Rattle.templates.specs.declared.Holder.TheVariants.{Outer, Fresh, Begun}
-use Rattle.templates.specs.declared.Head.{Head}
 use Rattle.templates.specs.Grammar.{identifier_tag, tag_bytes, head_size, object}
 use Rattle.templates.specs.Reading.{stands, tag_in, ahead, head_for, head_of}
 

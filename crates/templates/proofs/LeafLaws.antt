@@ -1,10 +1,9 @@
 -- One law for each way out of the leaves of reading. Assumes nothing.
-use mathlib.Core.Path.{◌≡◌, refl, sym, ap, ◌∙◌}
-use mathlib.Core.Bool.{Bool, true, false, ◌||◌, not, cond, or-false, or-true, and-false}
+use mathlib.Core.Path.{◌≡◌, sym, ap, ◌∙◌}
+use mathlib.Core.Bool.{Bool, true, false, not, and-false}
 use Prim.Native.Nat.{ℕ, ◌+◌, ◌≤◌, ◌<◌}
-use native.Mathlib.Omega.{arith}
 use borrow.Author.Tests.{eq-eqb, ne_eqb, le-leb, lt-leb, lt-ltb, le-ltb, not-true, not-false}
-use lib.Dec.{eqb, leb}
+use lib.Dec.{eqb}
 use lib.ListN.{get_or}
 use mathlib.Core.List.{List}
 use Rattle.shapes.specs.Length.{largest}
@@ -12,7 +11,7 @@ use Rattle.templates.specs.declared.Holder.{Holder}
 use Rattle.templates.specs.declared.Holder.TheVariants.{Outer, Fresh, Begun}
 use Rattle.templates.specs.declared.Head.{Head}
 use Rattle.templates.specs.Grammar.{outer_tag, command_tag, identifier_tag}
-use Rattle.templates.specs.Reading.{stands, after, is_template, is_data, within, tag_in, ahead, length_fits, good, judged}
+use Rattle.templates.specs.Reading.{stands, is_template, is_data, tag_in, length_fits, good, judged}
 
 -- tags
 pub template_first : (t : ℕ) → t ≡ 0x71 → true ≡ is_template t

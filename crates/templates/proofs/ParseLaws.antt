@@ -1,15 +1,14 @@
 -- The tree that bytes are written of: there is no other, and what is accepted has one. Assumes nothing.
 use mathlib.Core.Path.{◌≡◌, refl, sym, ap, ap₂, subst, ◌∙◌}
-use mathlib.Core.Bool.{Bool, true, false, ◌&&◌, ◌||◌, not, cond, true≢false}
-use mathlib.Core.List.{List, [], ◌∷◌, ◌++◌, append_assoc}
+use mathlib.Core.Bool.{Bool, true, false, ◌&&◌, ◌||◌, cond, true≢false}
+use mathlib.Core.List.{List, [], ◌∷◌, ◌++◌}
 use mathlib.Core.Option.{Option, none, some}
 use Prim.Native.Nat.{ℕ, zero, suc, ◌+◌, ◌≤◌, ◌<◌}
-use native.Mathlib.Nat.{not-suc-le-zero, le_refl}
 use native.Mathlib.Omega.{arith}
-use borrow.Author.Tests.{eqb-true, eqb-false, eq-eqb, ne_eqb, leb-true, le-leb}
+use borrow.Author.Tests.{eqb-true, leb-true}
 use lib.Dec.{eqb, leb}
-use lib.ListN.{length, get_or, take, drop, length-append, length-drop, length-take, take-append-drop}
-use lib.Seq.{length-take-le, take-add, drop-drop, take_at}
+use lib.ListN.{length, get_or, take, drop, length-append, length-drop, take-append-drop}
+use lib.Seq.{length-take-le, drop-drop}
 use Rattle.octets.specs.Numbers.{Octets}
 use Rattle.octets.proofs.Parts.{elements_part, octets-take, octets-drop}
 use Rattle.shapes.specs.Length.{largest, length_field}
@@ -18,13 +17,11 @@ use Rattle.shapes.proofs.LengthLaws.{place_is, field_read}
 use Rattle.templates.specs.declared.Holder.{Holder}
 use Rattle.templates.specs.declared.Holder.TheVariants.{Outer, Fresh, Begun}
 use Rattle.templates.specs.declared.Head.{Head}
-use Rattle.templates.specs.declared.Object.{Object}
-use Rattle.templates.specs.declared.Read.{Read}
-use Rattle.templates.specs.Grammar.{Kind, template1, template2, Script, Templates, nothing, script, outer, kind_tag, outer_tag, command_tag, identifier_tag, tag_bytes, object, written_identifier, written_commands, written_script, written, identifier_fits, commands_fit, script_fits, fits, head_size, object_at, identifier_objects, command_objects, script_objects, objects_of}
-use Rattle.templates.specs.Reading.{stands, after, is_template, within, tag_in, ahead, head_for, head_of, length_fits, good, judged, kept, stopped, object_read, onward, read_all}
-use Rattle.templates.proofs.HeadLaws.{both, joined, Tagged, one, two, tagged, length-tag, head_size_lem, head_small, length-object, object_then, head_read, data_read, rest_read}
-use Rattle.templates.proofs.ReadLaws.{read_none, read_step, read_code, Judged, judged_parts}
-use Rattle.templates.proofs.TreeLaws.{filled, filled-append, Fitting, Next, four_small, script_most, read_data, read_template_lem, script_turn, commands_read, script_read, templates_read}
+use Rattle.templates.specs.Grammar.{Kind, template1, template2, Script, Templates, nothing, script, outer, kind_tag, outer_tag, command_tag, identifier_tag, tag_bytes, object, written_identifier, written_commands, written_script, written, identifier_fits, commands_fit, script_fits, fits, head_size}
+use Rattle.templates.specs.Reading.{stands, tag_in, ahead, head_for, head_of, length_fits, good, judged}
+use Rattle.templates.proofs.HeadLaws.{both, Tagged, one, two, tagged, length-tag, head_size_lem, head_small, length-object, object_then, head_read, data_read, rest_read}
+use Rattle.templates.proofs.ReadLaws.{judged_parts}
+use Rattle.templates.proofs.TreeLaws.{four_small, script_most}
 
 -- data of the object that bytes begin with, and what follows it
 abbrev pub data_in : List ℕ → List ℕ

@@ -1,11 +1,11 @@
 -- Reading, step by step: the steps that it is given do not matter where there are as many as bytes, and each object goes on to the next. Assumes nothing.
 use mathlib.Core.Path.{◌≡◌, refl, sym, ap, ap₂, subst, ◌∙◌}
-use mathlib.Core.Bool.{Bool, true, false, ◌&&◌, not, cond, true≢false}
-use mathlib.Core.List.{List, [], ◌∷◌, ◌++◌}
+use mathlib.Core.Bool.{Bool, true, false, not, cond}
+use mathlib.Core.List.{List, [], ◌∷◌}
 use Prim.Native.Nat.{ℕ, zero, suc, ◌+◌, ◌-◌, ◌*◌, ◌^◌, ◌≤◌, ◌<◌}
 use native.Mathlib.Nat.{not-suc-le-zero, le_refl}
 use native.Mathlib.Omega.{arith}
-use borrow.Author.Tests.{eqb-true, eqb-false, eq-eqb, ne_eqb, leb-true, le-leb, lt-leb, ltb-true, lt-ltb, le-ltb, not-true, not-false}
+use borrow.Author.Tests.{eqb-true, eq-eqb, ne_eqb, leb-true, le-leb, ltb-true, lt-ltb, not-true, not-false}
 use lib.Dec.{eqb, leb, ltb}
 use lib.ListN.{length, take, drop, length-drop, length-take}
 use lib.Seq.{take_all, length-take-le}
@@ -17,7 +17,7 @@ use Rattle.templates.specs.declared.Object.{Object}
 use Rattle.templates.specs.declared.Read.{Read}
 use Rattle.templates.specs.Grammar.{head_size, object_at}
 use Rattle.templates.specs.Reading.{stands, after, is_template, within, head_for, head_of, length_fits, good, judged, begun, kept, stopped, Reader, entered, object_read, onward, read_for, read_all, reading}
-use Rattle.templates.proofs.HeadLaws.{both, Small, head_small}
+use Rattle.templates.proofs.HeadLaws.{both, head_small}
 
 -- the head of any bytes takes two to four of them
 pub head_of_small : (xs : List ℕ) → (2 ≤ (head_of xs).size) × ((head_of xs).size ≤ 4)

@@ -1,26 +1,25 @@
 -- The reader reads the grammar, and nothing else. Assumes nothing.
 use mathlib.Core.Path.{◌≡◌, refl, sym, ap, ap₂, subst, ◌∙◌}
-use mathlib.Core.Bool.{Bool, true, false, cond}
+use mathlib.Core.Bool.{Bool, cond}
 use mathlib.Core.List.{List, [], ◌∷◌, ◌++◌, append-nil, append_assoc}
 use Prim.Native.Nat.{ℕ, zero, suc, ◌+◌, ◌-◌, ◌≤◌, ◌<◌}
 use native.Mathlib.Nat.{le_refl}
 use native.Mathlib.Omega.{arith}
-use borrow.Author.Tests.{eqb-true, eqb-false, eq-eqb, ne_eqb, leb-true, le-leb}
-use lib.Dec.{eqb, leb}
+use borrow.Author.Tests.{eq-eqb, leb-true, le-leb}
 use lib.ListN.{length, set, replicate, length-append}
 use lib.Seq.{set-append_seam}
 use Rattle.octets.specs.Numbers.{Octets}
 use Rattle.templates.specs.declared.Holder.TheVariants.{Outer}
 use Rattle.templates.specs.declared.Object.{Object}
 use Rattle.templates.specs.declared.Read.{Read}
-use Rattle.templates.specs.Grammar.{Templates, nothing, script, outer, kind_tag, outer_tag, object, written_script, written, objects_of, Sound}
+use Rattle.templates.specs.Grammar.{Templates, nothing, script, outer, kind_tag, outer_tag, object, written_script, written, objects_of}
 use Rattle.templates.specs.Reading.{no_object, begun, kept, stopped, read_all, reading}
 use Rattle.templates.specs.Statement.{answered, WrittenAs, Derives, ReadsTheGrammar}
 use Rattle.templates.proofs.HeadLaws.{head_small, length-object}
 use Rattle.templates.proofs.ReadLaws.{reading_some}
 use Rattle.templates.proofs.TreeLaws.{filled, Fitting, templates_read}
 use Rattle.templates.proofs.ParseLaws.{templates_in, templates_parsed}
-use Rattle.templates.proofs.DerivedLaws.{Derived, templates_derived}
+use Rattle.templates.proofs.DerivedLaws.{templates_derived}
 
 -- objects kept are the answer's
 room_for : (n : ℕ) (a : Object) → 1 ≤ n → replicate n a ≡ a ∷ replicate (n - 1) a

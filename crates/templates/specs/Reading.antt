@@ -1,5 +1,5 @@
 -- Reading script templates (Wish 6): the objects in order, or the first at fault in byte order. Assumes nothing.
-use Rattle.std.specs.Prelude.{ℕ, zero, suc, ◌+◌, Bool, true, false, ◌&&◌, ◌||◌, not, cond, List, [], ◌∷◌, eqb, leb, ltb, length, get_or, take, drop, set, replicate}
+use Rattle.std.specs.Prelude.{ℕ, zero, suc, ◌+◌, Bool, ◌&&◌, ◌||◌, not, cond, List, [], ◌∷◌, eqb, leb, ltb, length, get_or, take, drop, set, replicate}
 use Rattle.answers.specs.declared.Refusal.TheVariants.{BadObject, TooDeep, TooMany}
 use Rattle.answers.specs.Refusals.{number}
 use Rattle.shapes.specs.Length.{largest}

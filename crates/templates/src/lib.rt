@@ -1,4 +1,6 @@
 // Script templates (Wish 6): tagged objects read from bytes, and written.
+#![tactic(auto)]
+
 ghost use Rattle.std.specs.Prelude.{◌≡◌, ◌+◌, ◌<◌, ◌≤◌, ◌^◌, length};
 ghost use Rattle.templates.specs.Reading.{stands as standsIn, after as afterIn, within as withinOf, is_template, is_data, tag_in, ahead as ahead_of, head_of, length_fits, good, judged, no_object, begun as begunRead, kept as kept_in, stopped as stoppedAt, object_read, read_all, reading};
 ghost use Rattle.octets.specs.Numbers.{be_octets};
@@ -7,7 +9,7 @@ ghost use Rattle.templates.specs.Lent.{object_bytes, laid_objects};
 use answers::Refusal;
 
 // What objects stand in: the top or an e1; a 71 or 72 that holds nothing yet; one that holds something.
-#[derive(Drop)]
+#[derive(Clone, Copy)]
 pub enum Holder {
     Outer,
     Fresh,
@@ -15,7 +17,7 @@ pub enum Holder {
 }
 
 // An object: its tag, its level, and the place and length of its data.
-#[derive(Drop)]
+#[derive(Clone, Copy)]
 pub struct Object {
     pub tag: usize,
     pub level: usize,
@@ -24,7 +26,7 @@ pub struct Object {
 }
 
 // What was read: the objects in order and how many; where the object at fault begins, and the refusal's number, 0 where there is none.
-#[derive(Drop)]
+#[derive(Clone, Copy)]
 pub struct Read {
     pub objects: [Object; 32],
     pub count: usize,
@@ -33,7 +35,7 @@ pub struct Read {
 }
 
 // Tag, length of the data, and size of tag and length field of the object that bytes begin with.
-#[derive(Drop)]
+#[derive(Clone, Copy)]
 pub struct Head {
     pub tag: usize,
     pub length: usize,
@@ -233,7 +235,7 @@ impl Read {
 // The objects of a template, or of the top: xs are its bytes, the first of which is at the place.
 #[cycle(read_object_read_template)]
 fn read_template(xs: &[u8], holder: Holder, level: usize, place: usize, r: Read) -> Read
-    requires* { do ⌜ place + length xs.now < 2 ^ 64 ⌝ }
+    requires { place + length xs.now < 2 ^ 64 }
     ensures { result ≡ read_all holder level place xs.now r }
 {
     if xs.len() == 0 {
@@ -251,7 +253,7 @@ fn read_template(xs: &[u8], holder: Holder, level: usize, place: usize, r: Read)
 // The object that xs, which a holder has left, begin with, and the objects in it.
 #[cycle(read_object_read_template)]
 fn read_object(xs: &[u8], holder: Holder, level: usize, place: usize, r: Read) -> Read
-    requires* { do ⌜ place + length xs.now < 2 ^ 64 ⌝ }
+    requires { place + length xs.now < 2 ^ 64 }
     ensures { result ≡ object_read read_all holder level place xs.now r }
 {
     let head = head_of(xs);

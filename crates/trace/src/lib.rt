@@ -1,4 +1,5 @@
 // The clerk's trace: lines of frames, each answered by a line; fed in parts of any length.
+#![tactic(auto)]
 ghost use Rattle.std.specs.Prelude.{◌≡◌, ◌+◌, ◌≤◌, length};
 ghost use Rattle.std.proofs.Math.Seq.{paste};
 ghost use Rattle.card.specs.Record.{masters};
@@ -12,7 +13,7 @@ use derive::KEPT_WORDS;
 use frames::{Held, KEPT, LONGEST, LONGEST_ANSWER};
 
 // A trace read so far: the record, and the current line up to one sign more than the longest.
-#[derive(Drop)]
+#[derive(Clone, Copy)]
 pub struct Trace {
     pub held: Held,
     pub line: [u8; KEPT],
@@ -20,7 +21,7 @@ pub struct Trace {
 }
 
 // What a part gives: the trace after it, how many bytes were taken, and the answer's line; its count is 0 where no line was completed.
-#[derive(Drop)]
+#[derive(Clone, Copy)]
 pub struct Fed {
     pub trace: Trace,
     pub taken: usize,
@@ -29,7 +30,7 @@ pub struct Fed {
 }
 
 // What a part gives that is fed into a buffer: the trace after it, how many bytes were taken, and how many were written.
-#[derive(Drop)]
+#[derive(Clone, Copy)]
 pub struct Filled {
     pub trace: Trace,
     pub taken: usize,
@@ -37,7 +38,7 @@ pub struct Filled {
 }
 
 // Of each master key how many words are kept: all or none.
-#[derive(Drop)]
+#[derive(Clone, Copy)]
 struct Words {
     ac: usize,
     smi: usize,
@@ -45,7 +46,7 @@ struct Words {
 }
 
 // A line fed, and the words left after it.
-#[derive(Drop)]
+#[derive(Clone, Copy)]
 struct Turned {
     fed: Fed,
     have: Words,

@@ -1,11 +1,13 @@
 // A transaction of the soft card: whether one is open, what is pending in it, and whether its fields are sound.
+#![tactic(auto)]
+
 ghost use Rattle.std.specs.Prelude.{◌≡◌};
 ghost use Rattle.transaction.specs.Transaction.{is_open, is_unmarked, none, pending_fits, rest_fits, kind_for, phase_for, just_opened as begunAs, is_arqc, mark_for, mark_after};
 
 use cryptogram::Kind;
 
 // Whether a transaction is open, and of what kind.
-#[derive(Drop)]
+#[derive(Clone, Copy)]
 pub enum Phase {
     Idle,
     Arqc,
@@ -13,7 +15,7 @@ pub enum Phase {
 }
 
 // What is pending for the block mark.
-#[derive(Drop)]
+#[derive(Clone, Copy)]
 pub enum PendingMark {
     Nothing,
     Set,
@@ -21,7 +23,7 @@ pub enum PendingMark {
 }
 
 // A transaction: all zero where none is open.
-#[derive(Drop)]
+#[derive(Clone, Copy)]
 pub struct Transaction {
     pub phase: Phase,
     pub cryptogram: [u8; 8],

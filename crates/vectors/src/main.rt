@@ -1,5 +1,6 @@
 // Runs the published vectors. A line of the input names document, clause and operation and gives the inputs in hexadecimal;
 // a line of the output repeats the three names and gives what the box computes. The file stdout has the published values.
+#![tactic(auto)]
 mod readings;
 
 ghost use Rattle.std.specs.Prelude.{◌≤◌, ◌<◌, length};
@@ -10,7 +11,7 @@ use cryptogram::Kind;
 use libc::{STDIN_FILENO, STDOUT_FILENO};
 
 // A word of a line: its first place, and the place after its last.
-#[derive(Drop)]
+#[derive(Clone, Copy)]
 pub struct Word {
     pub from: usize,
     pub to: usize,

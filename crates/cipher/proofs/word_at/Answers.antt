@@ -1,0 +1,8 @@
+use mathlib.Core.Path.{refl, sym, ap, ◌∙◌}
+use native.Mathlib.Nat.{add-zero}
+use Rattle.octets.specs.Numbers.{le}
+use Rattle.octets.proofs.Parts.{elements_part}
+use Rattle.cipher.proofs.word_at.Goals as goal
+
+pub returns : goal.returns
+returns c = c.word.ensures ∙ sym (ap le (elements_part c.args.s.now c.args.i 4 c.requires ∙ rw add-zero refl))

@@ -1,0 +1,7 @@
+use mathlib.Core.Path.{◌∙◌}
+use Rattle.cryptogram.proofs.AnswerLaws.{code_twice}
+use borrow.Author.Rules.{rules}
+use Rattle.cryptogram.proofs.double_code.Goals as goal
+
+pub returns : goal.returns
+returns c = c.twice.ensures ∙ search (rules, code_twice)

@@ -1,0 +1,8 @@
+use Rattle.scripts.proofs.LeafLaws.{holder_template, holder_data}
+use Rattle.scripts.proofs.holder_after.Goals as goal
+
+pub returns-then-is_template : goal.returns-then-is_template
+returns-then-is_template c = search holder_template
+
+pub returns : goal.returns
+returns c = search holder_data

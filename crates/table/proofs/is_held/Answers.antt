@@ -1,0 +1,17 @@
+use mathlib.Core.Path.{refl}
+use native.Mathlib.Omega.{arith}
+use borrow.Author.Rules.{rules}
+use Rattle.table.proofs.Turns.{held_yes, held_on, held_end}
+use Rattle.table.proofs.is_held.Goals as goal
+
+pub loop-i-init : goal.loop-i-init
+loop-i-init c = (omega arith, search rules, refl)
+
+pub returns-then-is_for : goal.returns-then-is_for
+returns-then-is_for c = search (held_yes, rules)
+
+pub loop-i-preserved : goal.loop-i-preserved
+loop-i-preserved c = (omega arith, search rules, search (held_on, rules))
+
+pub returns : goal.returns
+returns c = let l = c.loop-i in held_end _ _ l.i (omega arith) l.invariant.2

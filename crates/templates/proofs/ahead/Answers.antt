@@ -1,0 +1,11 @@
+use borrow.Author.Tests.{eq-eqb, ne_eqb}
+use Rattle.templates.specs.Reading.{ahead}
+use Rattle.templates.proofs.ahead.Goals as goal
+
+pub returns-then-tag-eq-IDENTIFIER : goal.returns-then-tag-eq-IDENTIFIER
+unfolding ahead
+returns-then-tag-eq-IDENTIFIER c = simp (eq-eqb _ _ c.if-tag-eq-IDENTIFIER.true)
+
+pub returns : goal.returns
+unfolding ahead
+returns c = simp (ne_eqb _ _ c.if-tag-eq-IDENTIFIER.false)

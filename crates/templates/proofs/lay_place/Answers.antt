@@ -1,0 +1,7 @@
+use mathlib.Core.Path.{refl}
+use Rattle.octets.specs.Numbers.{be_octets, le_octets}
+use Rattle.templates.proofs.lay_place.Goals as goal
+
+pub returns : goal.returns
+unfolding be_octets le_octets
+returns c = refl

@@ -1,5 +1,6 @@
 // Card, session and counter keys (R 1323565.1.010, 008) and the IDN (016), each by the one derivation, the hash or the cipher.
 #![tactic(auto)]
+
 ghost use Rattle.std.specs.Prelude.{◌≡◌, true, ◌++◌, ◌+◌, ◌-◌, ◌*◌, ◌≤◌, length, get_or, take, replicate};
 ghost use Rattle.octets.specs.Digits.{digits};
 ghost use Rattle.octets.specs.Digits.{pairs};

@@ -139,6 +139,14 @@ told_data m r t p n a f = go (shape m) refl
 pub told_body : (m : List ℕ) (t p n : ℕ) → Told m t p n → length (take (p + n + 2) m) + 1 ≤ 264
 told_body m t p n w = let l = length-take-le (p + n + 2) m (omega arith) in omega arith
 
+-- what is no data is refused
+pub told_other : (m : List ℕ) (r : Opened) → Tells r (shaped m) (cond (shape m) 0 4) m → ((t p n : ℕ) → r ≡ Data t p n → ⊥) → shape m ≡ false
+told_other m r a f = go (shape m) refl
+  where
+    go : (b : Bool) → shape m ≡ b → shape m ≡ false
+    go false g = g
+    go true g = absurd (f _ _ _ (a.is ∙ sym (shaped_good m g)))
+
 pub told_refused : (m : List ℕ) (r : Opened) (x : ℕ) → Tells r (shaped m) (cond (shape m) 0 4) m → r ≡ Refused x → shape m ≡ false
 told_refused m r x a f = go (shape m) refl
   where

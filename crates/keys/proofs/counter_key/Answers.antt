@@ -1,0 +1,10 @@
+use mathlib.Core.Path.{ap, ◌∙◌}
+use Rattle.answers.specs.Answers.{a_key}
+use Rattle.keys.proofs.AnswerLaws.{counter_no_key, counter_yes}
+use Rattle.keys.proofs.counter_key.Goals as goal
+
+pub returns-then-session-ne32 : goal.returns-then-session-ne32
+returns-then-session-ne32 c = counter_no_key _ c.if-session-ne32.true
+
+pub returns : goal.returns
+returns c = ap a_key c.hash-bytes.ensures ∙ counter_yes _ c.if-session-ne32.false

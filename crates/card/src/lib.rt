@@ -1,5 +1,6 @@
 // The soft card: its record, and the calls, each of which takes the record and hands back the record after it.
 #![tactic(auto)]
+
 ghost use Rattle.std.specs.Prelude.{◌≡◌, ◌<◌, length};
 ghost use Rattle.derive.specs.Derivation.{derived, card_label};
 ghost use Rattle.pin.specs.Answers.{decipher_pin};

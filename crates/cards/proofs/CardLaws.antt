@@ -1,20 +1,19 @@
 -- Many cards, one by one. Assumes nothing.
 use mathlib.Core.Path.{◌≡◌, refl, sym, ap, ap₂, ◌∙◌}
 use mathlib.Core.Bool.{Bool, true, false, cond, ◌&&◌, and-false, and-eq-true_iff}
-use mathlib.Core.List.{List, [], ◌∷◌, ◌++◌, append_assoc, append-nil}
+use mathlib.Core.List.{List, ◌++◌, append_assoc, append-nil}
 use Prim.Native.Nat.{ℕ, zero, suc, ◌+◌, ◌-◌, ◌*◌, ◌/◌, ◌%◌, ◌<◌, ◌≤◌}
 use native.Mathlib.Nat.{add-zero}
 use native.Mathlib.Omega.{arith}
 use borrow.Author.Tests.{eq-eqb, ne_eqb, leb-true, leb-false}
-use lib.Dec.{eqb, leb, lit<}
+use lib.Dec.{leb, lit<}
 use lib.ListN.{length, get_or, take, drop, replicate, length-drop}
-use lib.Seq.{paste, take-paste, length-paste, drop-drop, take_all, get_or-take, get_or-drop, length-take-le}
-use Rattle.answers.specs.Answers.{a_key}
+use lib.Seq.{paste, take-paste, drop-drop, take_all, get_or-take, get_or-drop, length-take-le}
 use Rattle.octets.specs.Lengths.{key_fits}
 use Rattle.octets.proofs.Parts.{part_part}
 use Rattle.rounds.specs.Rounds.{constants}
 use Rattle.answers.specs.declared.KeyAnswer.{KeyAnswer}
-use Rattle.derive.specs.Derivation.{derived, card_label}
+use Rattle.derive.specs.Derivation.{card_label}
 use Rattle.derive.specs.Kept.{kept_words, derived_kept}
 use Rattle.derive.specs.Answers.{derivation_over}
 use Rattle.derive.proofs.Laws.{derivation_over_lem, kept_fits_lem, derived_kept_lem}

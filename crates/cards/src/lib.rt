@@ -1,5 +1,6 @@
 // A day's cards: the master keys of many cards under one issuer's key, which is kept for all of them (R 1323565.1.010, clause 4.1).
 #![tactic(auto)]
+
 ghost use Rattle.std.specs.Prelude.{◌≡◌, ◌+◌, ◌*◌, ◌≤◌, length, take, drop};
 ghost use Rattle.std.proofs.Math.Seq.{paste};
 ghost use Rattle.cards.specs.Cards.{all_fit, cards_number, cards_after};

@@ -1,12 +1,12 @@
 -- One law for each way out of the desk's calls; what the crates below answer stands as a variable with its contract. Assumes nothing.
-use Prim.Native.Nat.{ℕ, ◌+◌, ◌-◌, ◌≤◌, ◌<◌}
+use Prim.Native.Nat.{ℕ, ◌-◌, ◌≤◌}
 use native.Mathlib.Omega.{arith}
 use native.Mathlib.Nat.{zero-add}
 use mathlib.Core.Path.{◌≡◌, refl, sym, ap, ap₂, ◌∙◌}
 use mathlib.Core.Bool.{Bool, true, false, not, ◌&&◌, ◌||◌, cond}
 use mathlib.Core.List.{List, [], ◌∷◌, ◌++◌}
 use lib.Dec.{eqb, ltb}
-use lib.ListN.{length, get_or, take, drop, replicate}
+use lib.ListN.{length, get_or, drop, replicate}
 use lib.Seq.{paste, take_all}
 use borrow.Author.Tests.{eq-eqb, ne_eqb, not-true, not-false}
 use Rattle.octets.specs.Same.{same}
@@ -18,11 +18,9 @@ use Rattle.answers.specs.declared.BlockAnswer.{BlockAnswer}
 use Rattle.derive.specs.Derivation.{derived, card_label}
 use Rattle.derive.proofs.Laws.{length-derived}
 use Rattle.keys.specs.CardNumber.{card_fits, Y, packed_y}
-use Rattle.keys.specs.Seeds.{session_seed}
 use Rattle.keys.specs.Answers.{card_key, card_key_packed, session_key, script_key}
-use Rattle.keys.proofs.CardLaws.{Fits, fits}
+use Rattle.keys.proofs.CardLaws.{fits}
 use Rattle.keys.proofs.AnswerLaws.{card_is, packed_is, session_is, script_is}
-use Rattle.cryptogram.specs.declared.Kind.{Kind}
 use Rattle.cryptogram.specs.declared.Kind.TheVariants.{Arqc}
 use Rattle.cryptogram.specs.Cryptogram.{cryptogram_of, arpc_of}
 use Rattle.cryptogram.specs.Answers.{cryptogram_answer, arpc_answer}

@@ -1,14 +1,14 @@
 -- A command's header and message in a lent buffer, way by way; what the crates below answer stands as a variable with its contract. Assumes nothing.
 use Prim.Native.Nat.{ℕ, ◌+◌, ◌-◌, ◌≤◌, ◌<◌}
 use native.Mathlib.Omega.{arith}
-use mathlib.Core.Path.{◌≡◌, refl, sym, ap, ap₂, subst, ◌∙◌}
+use mathlib.Core.Path.{◌≡◌, refl, sym, ap, ap₂, ◌∙◌}
 use mathlib.Core.Bool.{Bool, true, false, not, cond}
 use mathlib.Core.List.{List, [], ◌++◌}
-use lib.Dec.{eqb, leb}
+use lib.Dec.{eqb}
 use lib.ListN.{length, length-append}
 use borrow.Author.Tests.{eq-eqb, ne_eqb, eqb-false, le-leb, lt-leb, not-true, not-false}
 use Rattle.answers.specs.declared.Refusal.{Refusal}
-use Rattle.answers.specs.declared.Refusal.TheVariants.{Input, CardNumber, NoRoom, PinDigits, UnknownCard}
+use Rattle.answers.specs.declared.Refusal.TheVariants.{Input, CardNumber, PinDigits, UnknownCard}
 use Rattle.answers.specs.declared.BlockAnswer.{BlockAnswer}
 use Rattle.octets.specs.Laid.{laid}
 use Rattle.octets.proofs.LaidLaws.{length-laid, laid_laid}
@@ -21,7 +21,6 @@ use Rattle.shapes.specs.declared.command.Command.{Command}
 use Rattle.shapes.specs.declared.command.Command.TheVariants.{SetPin, SetMark, ClearMark}
 use Rattle.shapes.specs.declared.command.Listed.{Listed}
 use Rattle.shapes.specs.declared.command.Listed.TheVariants.{One, Unlisted}
-use Rattle.shapes.specs.Length.{largest}
 use Rattle.shapes.specs.Shape.{place_of}
 use Rattle.shapes.specs.Command.{header_of, tag_for}
 use Rattle.shapes.proofs.LengthLaws.{largest_is}

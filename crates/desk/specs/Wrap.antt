@@ -1,6 +1,6 @@
 -- Wrapping a command (Wish 7: "wraps PIN, block and unblock commands under the cryptogram that the caller names"; "wrapping 2, 19, 12, 3"; "a wrong length or kind
 -- of command is 1 ahead of all"). At the named place the 4 bytes of the header, and then the message. Assumes nothing.
-use Rattle.std.specs.Prelude.{ℕ, ◌+◌, Bool, true, cond, List, [], ◌∷◌, ◌++◌, eqb, leb, length}
+use Rattle.std.specs.Prelude.{ℕ, ◌+◌, Bool, true, cond, List, [], ◌++◌, eqb, leb, length}
 use Rattle.answers.specs.declared.Refusal.{Refusal}
 use Rattle.answers.specs.declared.Refusal.TheVariants.{Input, CardNumber, NoRoom, PinDigits, UnknownCard}
 use Rattle.answers.specs.Refusals.{number}

@@ -1,6 +1,7 @@
 // The issuer's desk (Wish 7): the issuer's master keys, how card digits are taken, and the table of the cards that it holds. It is built on what the crates
 // below promise and on nothing else of them. Adding, forgetting and checking take the desk and hand back the desk after them.
 #![tactic(auto)]
+
 mod script;
 
 ghost use Rattle.std.specs.Prelude.{◌≡◌, true, ◌≤◌, length};

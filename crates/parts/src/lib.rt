@@ -1,6 +1,7 @@
 // Hash, HMAC and code of a message that comes in parts, over states that the caller lends as bytes: what include/box.h gives to C. A lent
 // state or answer of another length is 1, and a refusal leaves both as they were.
 #![tactic(auto)]
+
 ghost use Rattle.std.specs.Prelude.{◌≡◌, ◌∷◌, ◌++◌, ◌+◌, ◌%◌, ◌<◌, ◌≤◌, length, take, drop, get_or};
 ghost use Rattle.std.proofs.Math.Seq.{paste};
 ghost use Rattle.octets.specs.Numbers.{le, le_octets};

@@ -1,0 +1,6 @@
+use Rattle.card.proofs.CallLaws.{none_fits}
+use borrow.Author.Rules.{rules}
+use Rattle.card.proofs.Card.script.Goals as goal
+
+pub returns : goal.returns
+returns c = c.script_kept.ensures (none_fits _) (none_fits _)

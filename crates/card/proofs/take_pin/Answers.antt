@@ -1,0 +1,11 @@
+use Rattle.card.proofs.CallLaws.{pin_no, pin_yes}
+use Rattle.card.specs.Keys.{smc_key}
+use Rattle.card.proofs.take_pin.Goals as goal
+
+pub returns-then-x-ne0 : goal.returns-then-x-ne0
+unfolding smc_key
+returns-then-x-ne0 c = λ fits. let e = c.script_key-key.ensures fits in search pin_no
+
+pub returns : goal.returns
+unfolding smc_key
+returns c = λ fits. let e = c.script_key-key.ensures fits in search pin_yes

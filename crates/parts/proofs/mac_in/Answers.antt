@@ -1,0 +1,6 @@
+-- `parts::mac_in` meets its contract: the inner hash and the outer. Assumes nothing.
+use Rattle.parts.proofs.LayLaws.{mac_read}
+use Rattle.parts.proofs.mac_in.Goals as goal
+
+pub returns : goal.returns
+returns c = mac_read c.args.b.now c.hash_in-inner.ensures c.hash_in-outer.ensures

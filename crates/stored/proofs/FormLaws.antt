@@ -1,17 +1,16 @@
 -- A table and its bytes, entry by entry. Assumes nothing.
-use Prim.Native.Nat.{ℕ, zero, suc, ◌+◌, ◌-◌, ◌*◌, ◌≤◌, ◌<◌}
+use Prim.Native.Nat.{ℕ, zero, suc, ◌+◌, ◌*◌, ◌<◌}
 use native.Mathlib.Omega.{arith}
 use native.Mathlib.Numerals.{add-one}
 use mathlib.Core.Path.{◌≡◌, refl, sym, ap, ap₂, ◌∙◌}
-use mathlib.Core.Bool.{Bool, true, false, not, cond}
+use mathlib.Core.Bool.{Bool, true, false, not}
 use mathlib.Core.List.{List, [], ◌∷◌, ◌++◌, append-nil, append_assoc}
 use lib.Dec.{eqb}
 use lib.ListN.{length, get_or, take, drop, set, length-append, drop_of_length-le}
-use lib.Seq.{paste, paste-zero, paste-suc, take_all, take-suc, length-take-le}
+use lib.Seq.{paste, paste-zero, paste-suc, take_all, take-suc}
 use Rattle.octets.specs.Numbers.{be, be_octets}
 use Rattle.octets.proofs.NumberLaws.{length-be_octets}
 use Rattle.octets.proofs.Parts.{elements, elements_all}
-use Rattle.table.specs.declared.CardId.{CardId}
 use Rattle.table.specs.declared.Entry.{Entry}
 use Rattle.parts.proofs.LayLaws.{laid_then, laid_length, laid_all}
 use Rattle.stored.specs.Form.{entry_at, flag, entry_out, entries_from, table_in, table_out}

@@ -1,6 +1,7 @@
 // The desk over a table that the caller lends as bytes, with the issuer's keys lent beside it: what include/box.h gives to C. A lent slice of another
 // length is 1, and a refusal leaves every lent byte as it was.
 #![tactic(auto)]
+
 ghost use Rattle.std.specs.Prelude.{◌≡◌, true, ◌+◌, ◌≤◌, length, take, drop};
 ghost use Rattle.std.proofs.Math.Seq.{paste};
 ghost use Rattle.message.specs.Answers.{Wrote};

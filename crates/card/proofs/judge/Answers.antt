@@ -1,3 +1,4 @@
+use mathlib.Core.Path.{refl}
 use native.Mathlib.Omega.{arith}
 use Rattle.shapes.proofs.AnswerLaws.{told_data}
 use Rattle.card.proofs.CallLaws.{judge_header, judge_shape, judge_unlisted, judge_listed, judge_end, judge_data}
@@ -11,7 +12,7 @@ pub returns-in_default : goal.returns-in_default
 returns-in_default c = search judge_shape
 
 pub overflow_add-end : goal.overflow_add-end
-overflow_add-end c = let w = told_data _ _ _ _ _ c.shape.ensures c.tag-1.given.1 in
+overflow_add-end c = let w = told_data _ _ _ _ _ c.in-Data.ensures refl in
     record { fits = omega arith }
 
 pub slice_bounds-obey-end : goal.slice_bounds-obey-end

@@ -1,7 +1,7 @@
 -- Answers as lines of digits. Assumes nothing.
-use Prim.Native.Nat.{ℕ, ◌+◌, ◌-◌, ◌/◌, ◌%◌}
-use mathlib.Core.Path.{◌≡◌, refl, sym, ap, ap₂, ◌∙◌}
-use mathlib.Core.Bool.{true, false}
+use Prim.Native.Nat.{ℕ, ◌/◌, ◌%◌}
+use mathlib.Core.Path.{◌≡◌, sym, ap, ◌∙◌}
+use mathlib.Core.Bool.{false}
 use mathlib.Core.List.{List, [], ◌∷◌, ◌++◌}
 use lib.ListN.{length, get_or, set, replicate}
 use borrow.Author.Tests.{eq-eqb, ne_eqb}
@@ -12,7 +12,7 @@ use Rattle.card.specs.Personalise.{personalised}
 use Rattle.lines.specs.declared.Held.{Held}
 use Rattle.lines.specs.declared.Said.{Said}
 use Rattle.lines.specs.Lines.{hex_text, line_for}
-use Rattle.lines.specs.Answers.{LineAnswer, holding, nothing, numbered, octets_for, replied}
+use Rattle.lines.specs.Answers.{holding, nothing, numbered, octets_for, replied}
 use Rattle.lines.specs.Said.{longest_answer, filled_to, said}
 
 -- the number alone

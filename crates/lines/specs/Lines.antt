@@ -1,5 +1,5 @@
 -- Lines, and the digits of a line (01, The clerk's trace). Assumes nothing.
-use Rattle.std.specs.Prelude.{ℕ, ◌+◌, ◌*◌, ◌%◌, Bool, true, false, not, ◌&&◌, cond, List, [], ◌∷◌, ◌++◌, eqb, leb, length, get_or}
+use Rattle.std.specs.Prelude.{ℕ, ◌+◌, ◌*◌, ◌%◌, Bool, true, not, ◌&&◌, cond, List, [], ◌∷◌, ◌++◌, eqb, leb, length, get_or}
 use Rattle.octets.specs.Digits.{hex_octet, hex_value}
 use Rattle.shapes.specs.Rules.{Rules, present}
 

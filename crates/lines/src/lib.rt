@@ -1,5 +1,6 @@
 // Lines of the clerk's trace: whether a line's signs are read, and the line that answers it.
 #![tactic(auto)]
+
 ghost use Rattle.std.specs.Prelude.{◌≡◌, [], ◌∷◌};
 ghost use Rattle.lines.specs.Lines.{legible, hexadecimal, octet_of, hex_text};
 ghost use Rattle.lines.specs.Answers.{holding, nothing, numbered, replied as repliedWith};

@@ -1,19 +1,17 @@
 -- When each number is given, and when a checking is accepted. Assumes nothing.
-use Prim.Native.Nat.{ℕ, ◌+◌, ◌≤◌, ◌<◌}
-use mathlib.Core.Path.{◌≡◌, refl, sym, ap, ap₂, subst, ◌∙◌}
-use mathlib.Core.Logic.{◌↔◌}
-use mathlib.Core.Bool.{Bool, true, false, not, ◌&&◌, cond}
-use mathlib.Core.List.{List, [], ◌∷◌}
+use Prim.Native.Nat.{ℕ, ◌+◌, ◌<◌}
+use mathlib.Core.Path.{◌≡◌, refl, sym, ap, ap₂, ◌∙◌}
+use mathlib.Core.Bool.{Bool, true, false, ◌&&◌}
+use mathlib.Core.List.{List}
 use mathlib.Core.Option.{Option, none, some}
-use lib.Dec.{eqb, ltb}
+use lib.Dec.{eqb}
 use lib.ListN.{length}
 use borrow.Author.Tests.{eqb-false, ltb-true, lt-ltb, le-ltb, lt-leb}
 use Rattle.octets.specs.Same.{same}
 use Rattle.octets.proofs.SameLaws.{same_refl, same_true}
 use Rattle.keys.specs.CardNumber.{card_fits}
-use Rattle.desks.specs.Run.{Issuer, DeskCall, Check}
-use Rattle.desks.specs.Book.{holds, last_of, counter_of, arqc_for, is_above, is_command, script_for, first_of, due, book, due_after}
-use Rattle.desks.specs.Sentences.{last_was_add, last_checked, Right, CheckExactly, Numbered, EachNumbered}
+use Rattle.desks.specs.Book.{holds, last_of, counter_of, arqc_for, is_above, script_for, first_of, due, book}
+use Rattle.desks.specs.Sentences.{last_was_add, last_checked, Right, CheckExactly, EachNumbered}
 use Rattle.desks.proofs.Laws.{check_tests, sentences}
 
 all_true : (l f h s a : Bool) → first_of (check_tests l f h s a) ≡ 0 → (l ≡ true) × (f ≡ true) × (h ≡ true) × (s ≡ true) × (a ≡ true)

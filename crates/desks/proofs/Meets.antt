@@ -5,9 +5,7 @@ use mathlib.Core.Logic.{◌↔◌}
 use mathlib.Core.Bool.{Bool, true, false, cond}
 use mathlib.Core.List.{List, [], ◌∷◌}
 use lib.Dec.{eqb}
-use lib.ListN.{length}
 use borrow.Author.Tests.{ne_eqb, eqb-true, eqb-false}
-use Rattle.table.specs.Table.{held_count}
 use Rattle.desk.specs.declared.Desk.{Desk}
 use Rattle.desks.specs.Run.{Issuer, DeskCall, DeskAnswer, AnyDesk, reached, answered, our_answer, our_next, our_desk}
 use Rattle.desks.specs.Book.{gives, leaves, book, due_after}

@@ -1,8 +1,8 @@
 -- "a refusal changes no entry", of every desk and every call, and no lent byte. Assumes nothing.
 use Prim.Native.Nat.{ℕ, ◌+◌}
-use mathlib.Core.Path.{◌≡◌, refl, sym, ap, ap₂, subst⁻¹, ◌∙◌}
-use mathlib.Core.Bool.{Bool, true, false, ◌&&◌, ◌||◌, cond}
-use mathlib.Core.List.{List, [], ◌∷◌}
+use mathlib.Core.Path.{◌≡◌, refl, subst⁻¹}
+use mathlib.Core.Bool.{Bool, true, false, ◌&&◌, cond}
+use mathlib.Core.List.{List}
 use lib.Dec.{eqb, leb}
 use lib.ListN.{length}
 use Rattle.gost.specs.Gost.{subkeys}
@@ -18,7 +18,6 @@ use Rattle.desk.specs.declared.Desk.{Desk}
 use Rattle.desk.specs.declared.Told.{Told}
 use Rattle.desk.specs.declared.Checked.{Checked}
 use Rattle.desk.specs.Desk.{id_of, with_places, told, told_by, adds, forgets}
-use Rattle.answers.specs.declared.Refusal.{Refusal}
 use Rattle.answers.specs.declared.Refusal.TheVariants.{Input, CardNumber, NoRoom, PinDigits, UnknownCard}
 use Rattle.octets.specs.Laid.{laid}
 use Rattle.message.specs.Answers.{Written}
@@ -26,7 +25,7 @@ use Rattle.shapes.specs.declared.command.Command.{Command}
 use Rattle.shapes.specs.declared.command.Listed.{Listed}
 use Rattle.shapes.specs.declared.command.Listed.TheVariants.{One, Unlisted}
 use Rattle.desk.specs.Wrap.{ordered, script_of, pin_good, carried, script, unwritten, writes, wraps_command, wraps_order, wraps_listed, wraps}
-use Rattle.desks.specs.Sentences.{Leaves, RefusalLeaves}
+use Rattle.desks.specs.Sentences.{RefusalLeaves}
 use Rattle.desk.specs.Check.{counter_in, session_of, above_last, unchecked, checks_right, checks_known, checks}
 
 abbrev Same : Desk → Told → Type 0

@@ -1,5 +1,6 @@
 // The clerk's trace, one line: a hexadecimal frame, and what answers it.
 #![tactic(auto)]
+
 ghost use Rattle.std.specs.Prelude.{◌≡◌, true, ◌+◌, ◌≤◌, ◌/◌, length, take, drop};
 ghost use Rattle.answers.specs.declared.Refusal.TheVariants.{Input};
 ghost use Rattle.answers.specs.Refusals.{number};

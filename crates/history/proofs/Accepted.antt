@@ -5,14 +5,12 @@ use mathlib.Core.Path.{◌≡◌, refl, sym, ap, ◌∙◌}
 use mathlib.Core.Bool.{Bool, true, false, false≢true}
 use mathlib.Core.List.{List}
 use mathlib.Core.Logic.{◌↔◌}
-use lib.Dec.{eqb}
 use borrow.Author.Tests.{eqb-false, eq-eqb, ne_eqb}
-use Rattle.answers.specs.Refusals.{number}
 use Rattle.answers.proofs.Laws.{not_zero}
 use Rattle.card.specs.declared.Card.{Card}
 use Rattle.card.specs.declared.Reply.{Reply}
 use Rattle.card.specs.Record.{sound}
-use Rattle.card.specs.Calls.{Call, Script, Verdict, refuse, accept, judged_script, judged, judged_under, due_under, after_under, plain, step}
+use Rattle.card.specs.Calls.{Call, Script, accept, judged_script, judged, judged_under, due_under, after_under, plain, step}
 use Rattle.history.specs.Demand2.{Accepts, Differs, DiffersExactly}
 use Rattle.history.proofs.Change.{same_code, format_so, Change, change, step_by, early, spoiled, differed, took, quiet}
 

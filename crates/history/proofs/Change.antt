@@ -7,7 +7,7 @@ use lib.ListN.{length}
 use lib.Dec.{eqb}
 use borrow.Author.Tests.{eqb-true, eqb-false, eq-eqb, not-false}
 use Rattle.answers.specs.declared.Refusal.{Refusal}
-use Rattle.answers.specs.declared.Refusal.TheVariants.{Input, ShapeWrong, NotListed, PhaseWrong, CounterFull, CodeDiffers, PinFormat, SpoiltClosed, ArpcDiffers, WrongPin, NoTries}
+use Rattle.answers.specs.declared.Refusal.TheVariants.{Input, ShapeWrong, PhaseWrong, CounterFull, CodeDiffers, PinFormat, SpoiltClosed, ArpcDiffers, WrongPin, NoTries}
 use Rattle.answers.specs.Refusals.{number}
 use Rattle.octets.specs.Same.{same}
 use Rattle.shapes.specs.declared.command.Command.{Command}
@@ -29,7 +29,7 @@ use Rattle.card.specs.declared.Reply.{Reply}
 use Rattle.card.specs.Record.{sound as isSound, with_transaction, with_counters, one_failed, with_tries, one_misread, full_tries}
 use Rattle.card.specs.Keys.{smi_key, smc_key}
 use Rattle.card.specs.Calls.{Call, Open, IssuerAnswer, Script, Close, Withdraw, Counters, CheckPin, is_kept}
-use Rattle.card.specs.Calls.{Verdict, refuse, strikes, first_struck, read, unlisted, why_unlisted, unread, judged_script, arpc_for, judged, judged_under, only, gives, accepted, refused, due_by, after_by, due_under, after_under, reply, plain, step}
+use Rattle.card.specs.Calls.{Verdict, refuse, strikes, first_struck, read, unlisted, why_unlisted, unread, judged_script, arpc_for, judged, judged_under, gives, accepted, due_by, after_by, due_under, after_under, reply, plain, step}
 use Rattle.history.specs.Demand2.{Accepts, Differs, block_read}
 
 no_command : (q : Refusal) (c : Command) → Unlisted q ≡ One c → ⊥

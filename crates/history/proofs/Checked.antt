@@ -1,19 +1,17 @@
 -- When a PIN check is answered what. Assumes nothing.
 use Prim.Native.Nat.{ℕ}
-use mathlib.Core.Path.{◌≡◌, refl, sym, ap, subst, ◌∙◌}
-use mathlib.Core.Bool.{Bool, true, false, not, ◌&&◌, cond, and-false}
-use mathlib.Core.List.{List, [], ◌∷◌}
+use mathlib.Core.Path.{◌≡◌, refl, subst}
+use mathlib.Core.Bool.{Bool, true, false, and-false}
+use mathlib.Core.List.{List}
 use lib.Dec.{eqb}
-use lib.ListN.{length}
 use borrow.Author.Tests.{eq-eqb, ne_eqb}
 use Rattle.octets.specs.Same.{same}
 use Rattle.octets.proofs.SameLaws.{same_refl, same_true}
 use Rattle.pin.specs.declared.PinRead.{PinRead}
-use Rattle.transaction.specs.Transaction.{is_open}
 use Rattle.card.specs.declared.Card.{Card}
 use Rattle.card.specs.Keys.{smc_key}
 use Rattle.card.specs.Calls.{CheckPin, is_kept, judged_under, due_under, step}
-use Rattle.history.specs.Demand2.{block_read, Presented, Tried, Checked, ChecksExactly}
+use Rattle.history.specs.Demand2.{block_read, Tried, Checked, ChecksExactly}
 
 -- PINs that differ are not the same
 differing : (p q : List ℕ) → (p ≡ q → ⊥) → same p q ≡ false

@@ -25,8 +25,8 @@ use Rattle.transaction.specs.declared.Transaction.{Transaction}
 use Rattle.transaction.specs.Transaction.{is_open, is_unmarked, none, pending_fits, rest_fits, phase_for}
 use Rattle.card.specs.declared.Card.{Card}
 use Rattle.card.specs.declared.Reply.{Reply}
-use Rattle.card.specs.Record.{sound, kept, with_transaction, with_kept, full_tries}
-use Rattle.card.specs.Calls.{Call, Withdraw, read, Order, new_pin, new_mark, orders, pend, pend_all, settled, judged_under, unread, strikes, first_struck, due, after, plain, settled_record, tries_after}
+use Rattle.card.specs.Record.{sound, kept, with_transaction, full_tries}
+use Rattle.card.specs.Calls.{Call, Withdraw, read, Order, new_pin, new_mark, orders, pend, pend_all, settled, judged_under, unread, strikes, first_struck, plain, settled_record, tries_after}
 use Rattle.card.specs.Personalise.{fresh, loaded_by, personalised}
 use Rattle.history.proofs.Own.{box, run}
 use Rattle.history.specs.Run.{Loading, personalised_with}

@@ -4,12 +4,11 @@ use native.Mathlib.Nat.{add-zero}
 use native.Mathlib.Omega.{arith}
 use mathlib.Core.Path.{◌≡◌, refl, sym, ap, ap₂, subst, ◌∙◌}
 use mathlib.Core.List.{List, [], ◌∷◌, ◌++◌}
-use mathlib.Core.Bool.{Bool, true, false, not, ◌&&◌, ◌||◌, cond, and-false, or-true, or-false, false≢true}
+use mathlib.Core.Bool.{Bool, true, false, ◌&&◌, ◌||◌, cond, and-false, or-true, or-false, false≢true}
 use lib.Dec.{eqb}
 use lib.ListN.{replicate}
 use Rattle.answers.specs.declared.Refusal.{Refusal}
 use Rattle.answers.specs.Refusals.{number}
-use Rattle.shapes.specs.declared.command.Listed.{Listed}
 use Rattle.shapes.specs.Shape.{length_of, tag_of, data_of}
 use Rattle.shapes.specs.Command.{command_of}
 use Rattle.derive.specs.Derivation.{derived, card_label}
@@ -26,9 +25,8 @@ use Rattle.card.specs.Record.{sound, Kept, kept, with_transaction, with_kept, wi
 use Rattle.card.specs.Keys.{smc_key}
 use Rattle.card.specs.Calls.{Call, Open, IssuerAnswer, Script, Close, Withdraw, Counters, read, grown, cryptogram_for, only, due, Order, new_pin, new_mark, orders, pend, pend_all, settled, CheckPin, tries_after}
 use Rattle.history.proofs.Own.{any, box, entry, run}
-use Rattle.history.specs.Run.{Loading, Entry, did, History, frame, was, is_opening as isOpened, is_answer as isAnswered, is_failure as isFailed, is_misread, is_mistaken}
-use Rattle.history.specs.Demand2.{Accepts}
-use Rattle.history.specs.Ledger.{how_many, since, orders_in, Page, turned, page, made_good, good, obeyed, all_obeyed, kept_by, atc_by, counters_by, transaction_by, must_be, ledger, loaded, after_calls, new_pin_in, restores, tries_by}
+use Rattle.history.specs.Run.{Loading, did, History, frame, was, is_opening as isOpened, is_answer as isAnswered, is_failure as isFailed, is_misread, is_mistaken}
+use Rattle.history.specs.Ledger.{orders_in, Page, turned, page, made_good, good, obeyed, all_obeyed, kept_by, atc_by, counters_by, transaction_by, must_be, ledger, loaded, after_calls, new_pin_in, restores, tries_by}
 use Rattle.history.specs.Demand3.{Fresh}
 use Rattle.history.proofs.Change.{mild, Change, change, quiet, idle, early, counted, opened, answered, spoiled, differed, took, dropped, closed, withdrew, spared, misread, mistaken, recognised}
 use Rattle.answers.proofs.Laws.{not_zero}

@@ -3,16 +3,12 @@ use Prim.Native.Nat.{ℕ, ◌+◌, ◌-◌}
 use mathlib.Core.Path.{◌≡◌, refl, sym, ap, ap₂, subst, ◌∙◌}
 use mathlib.Core.List.{List, [], ◌∷◌, ◌++◌}
 use mathlib.Core.Bool.{Bool, true, false, not, ◌&&◌, cond, and-eq-true_iff, true≢false, false≢true}
-use lib.ListN.{length, replicate}
+use lib.ListN.{replicate}
 use lib.Dec.{eqb}
 use borrow.Author.Tests.{eqb-true, not-true}
 use Rattle.answers.specs.declared.Refusal.{Refusal}
 use Rattle.answers.specs.Refusals.{number}
 use Rattle.octets.specs.Same.{same}
-use Rattle.shapes.specs.declared.command.Listed.{Listed}
-use Rattle.shapes.specs.declared.command.Listed.TheVariants.{One, Unlisted}
-use Rattle.shapes.specs.Shape.{length_of, tag_of, shape}
-use Rattle.shapes.specs.Command.{command_of}
 use Rattle.transaction.specs.declared.PendingMark.TheVariants.{Nothing}
 use Rattle.transaction.specs.declared.Transaction.{Transaction}
 use Rattle.transaction.specs.Transaction.{is_open, is_unmarked, none, pending_fits, rest_fits}
@@ -21,7 +17,7 @@ use Rattle.card.specs.declared.Reply.{Reply}
 use Rattle.card.specs.Record.{sound, with_transaction, with_counters, with_tries, one_misread}
 use Rattle.card.specs.Keys.{session_key_of, smi_key, smc_key, counter_key_of}
 use Rattle.card.specs.Calls.{Call, Open, IssuerAnswer, Script, Close, Withdraw, Counters, Verdict, refuse, accept, read, judged_script, judged, judged_under, arpc_for, cryptogram_for, counters_for, CheckPin, refused_check}
-use Rattle.card.specs.Calls.{only, Order, new_pin, new_mark, orders, pend, pend_all, refused, reply, plain}
+use Rattle.card.specs.Calls.{only, Order, new_pin, new_mark, orders, pend, pend_all, refused, plain}
 use Rattle.history.proofs.Own.{any, box, entry, history, run}
 use Rattle.history.specs.Run.{Loading, Entry, did, History, calls_of, frame, is_command}
 use Rattle.history.specs.Demand3.{Fresh, struck, any_of, SameButStruck, StrikeLaw}

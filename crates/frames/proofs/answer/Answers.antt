@@ -1,0 +1,6 @@
+use Rattle.card.proofs.MasterLaws.{none_fit}
+use borrow.Author.Rules.{rules}
+use Rattle.frames.proofs.answer.Goals as goal
+
+pub returns : goal.returns
+returns c = c.answer_kept.ensures (none_fit _)

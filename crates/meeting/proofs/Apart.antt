@@ -3,20 +3,17 @@ use Prim.Native.Nat.{ℕ, ◌<◌}
 use mathlib.Core.Path.{◌≡◌, refl, sym, ap, ap₂, ◌∙◌}
 use mathlib.Core.Bool.{Bool, true, false, not, ◌||◌, cond}
 use mathlib.Core.List.{List}
-use mathlib.Core.Option.{Option, none, some}
+use mathlib.Core.Option.{none, some}
 use lib.Dec.{ltb}
 use lib.ListN.{length}
 use borrow.Author.Tests.{lt-ltb}
 use Rattle.answers.specs.declared.KeyAnswer.{KeyAnswer}
 use Rattle.keys.specs.CardNumber.{card_fits}
-use Rattle.keys.specs.Answers.{card_key, card_key_packed}
 use Rattle.keys.proofs.AnswerLaws.{card_is, packed_is}
 use Rattle.table.specs.declared.CardId.{CardId}
 use Rattle.table.specs.declared.Entry.{Entry}
-use Rattle.table.specs.declared.Last.{Last}
 use Rattle.table.specs.Table.{readings}
 use Rattle.table.specs.Calls.{reading}
-use Rattle.table.specs.Acts.{last_of}
 use Rattle.table.specs.Seen.{first}
 use Rattle.table.proofs.Touch.{last_reads}
 use Rattle.card.specs.declared.Card.{Card}

@@ -4,20 +4,18 @@ use native.Mathlib.Omega.{arith}
 use native.Mathlib.Nat.{add-zero, zero-add}
 use native.Mathlib.Numerals.{add-one}
 use mathlib.Core.Path.{◌≡◌, refl, sym, ap, ap₂, ◌∙◌, subst}
-use mathlib.Core.Bool.{Bool, true, false}
+use mathlib.Core.Bool.{true, false}
 use mathlib.Core.List.{List, [], ◌∷◌, ◌++◌, append_assoc, append-nil}
 use lib.Dec.{leb, eqb}
-use lib.ListN.{length, get_or, set, take, drop, replicate, length-append, length-drop, drop_of_length-le}
-use lib.Seq.{take_all, drop-cons, drop-drop, length-take-le, paste, paste-suc, length-paste, take-paste, drop-paste}
-use borrow.Author.Tests.{le-leb, lt-leb, leb-true, leb-false}
-use Rattle.lines.specs.Lines.{line_for}
+use lib.ListN.{length, get_or, set, take, drop, length-append, length-drop, drop_of_length-le}
+use lib.Seq.{drop-drop, length-take-le, paste, paste-suc, length-paste, take-paste, drop-paste}
+use borrow.Author.Tests.{lt-leb, leb-false}
 use Rattle.lines.specs.Said.{filled_to, said, longest_answer}
-use Rattle.frames.specs.Frames.{answer_to}
 use Rattle.frames.proofs.FrameLaws.{rest_all}
 use Rattle.trace.specs.declared.Trace.{Trace}
 use Rattle.trace.specs.declared.Fed.{Fed}
 use Rattle.trace.specs.declared.Filled.{Filled}
-use Rattle.trace.specs.Feeding.{line_of, extended, resting, completed, fed_from, fed, ended, answer_in, after_all, answers_all, Filling, filling_from, filling, Fills}
+use Rattle.trace.specs.Feeding.{extended, resting, completed, fed_from, fed, ended, answer_in, after_all, answers_all, Filling, filling_from, filling, Fills}
 use Rattle.trace.proofs.TraceLaws.{Split, fed_line, either}
 
 -- an answer is no longer than its array

@@ -1,7 +1,7 @@
 -- Fed in parts is fed at once (`fed_fed`), a part is fed line by line (`fed_line`), and what is fed is what the trace is answered (`traced_fed`), however
 -- it is cut (`traced_parts`).
 -- Assumes nothing.
-use Prim.Native.Nat.{ℕ, zero, suc, ◌+◌, ◌≤◌, ◌<◌}
+use Prim.Native.Nat.{ℕ, suc, ◌+◌, ◌≤◌, ◌<◌}
 use native.Mathlib.Omega.{arith}
 use native.Mathlib.Nat.{add-zero}
 use native.Mathlib.Numerals.{add-one}
@@ -9,12 +9,12 @@ use mathlib.Core.Path.{◌≡◌, refl, sym, ap, ap₂, ◌∙◌}
 use mathlib.Core.Bool.{Bool, true, false}
 use mathlib.Core.List.{List, [], ◌∷◌, ◌++◌, append_assoc, append-nil}
 use lib.Dec.{eqb, leb}
-use lib.ListN.{length, take, drop, set, replicate, length-append, length-take, length-set, length-replicate}
+use lib.ListN.{length, take, drop, length-append, length-take, length-set}
 use lib.Seq.{take_all, take-append-le, take-append_seam, take-suc-set}
-use borrow.Author.Tests.{eq-eqb, ne_eqb, le-leb, lt-leb, leb-true, leb-false, eqb-true, eqb-false}
+use borrow.Author.Tests.{eq-eqb, ne_eqb, le-leb, leb-true, leb-false}
 use Rattle.lines.specs.declared.Held.{Held}
-use Rattle.lines.specs.Lines.{longest, kept_signs, last_line, lines_from, lines, line_for}
-use Rattle.lines.specs.Answers.{LineAnswer, nothing, numbered}
+use Rattle.lines.specs.Lines.{longest, kept_signs, last_line, lines_from, line_for}
+use Rattle.lines.specs.Answers.{LineAnswer}
 use Rattle.lines.specs.Said.{filled_to, said, longest_answer}
 use Rattle.frames.specs.Frames.{answer_to, answer_to_under}
 use Rattle.frames.proofs.FrameLaws.{readable_long}

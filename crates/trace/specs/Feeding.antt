@@ -1,6 +1,5 @@
 -- Feeding a trace in parts: the structs of the code. Assumes nothing.
-use Rattle.std.specs.Prelude.{ℕ, ◌+◌, ◌≡◌, Bool, cond, List, [], ◌∷◌, ◌++◌, eqb, leb, length, take, drop, set, replicate}
-use Rattle.lines.specs.declared.Held.{Held}
+use Rattle.std.specs.Prelude.{ℕ, ◌+◌, ◌≡◌, cond, List, [], ◌∷◌, ◌++◌, eqb, leb, length, take, drop, set, replicate}
 use Rattle.lines.specs.declared.Said.{Said}
 use Rattle.lines.specs.Lines.{longest, kept_signs}
 use Rattle.lines.specs.Answers.{nothing}

@@ -1,5 +1,6 @@
 // The clerk's trace: lines of frames, each answered by a line; fed in parts of any length.
 #![tactic(auto)]
+
 ghost use Rattle.std.specs.Prelude.{◌≡◌, ◌+◌, ◌≤◌, length};
 ghost use Rattle.std.proofs.Math.Seq.{paste};
 ghost use Rattle.card.specs.Record.{masters};

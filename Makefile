@@ -2,16 +2,16 @@
 .PHONY: help run test host bench clean
 
 help:
-	@echo 'make run     proves and builds the clerk'"'"'s program and runs a day at the desk through it: 5 minutes from nothing'
-	@echo 'make host    proves the library for C and builds the programs box and desk over it: 4 minutes from nothing'
-	@echo 'make test    the whole gate, from nothing: 21 to 35 minutes'
+	@echo 'make run     proves and builds the clerk'"'"'s program and runs a day at the desk through it: 10 minutes from nothing'
+	@echo 'make host    proves the library for C and builds the programs box and desk over it: 15 minutes from nothing'
+	@echo 'make test    the whole gate: 20 to 45 minutes'
 	@echo 'make bench   times the proved code beside libgcrypt and nettle (docs/SPEED.md)'
 	@echo 'make clean   removes what they built'
 	@echo 'README.md says what it is, CONTRIBUTING.md how to change it. Times are of two x86-64 cores.'
 
 run:
-	@tools/alone 'make run' sh -c 'tools/prove --minutes 5 clerk && tools/show samples/day.trace'
-	@echo 'samples/README.md explains each line; target/bin/clerk is the program, started by: tools/run clerk <TRACE'
+	@tools/alone 'make run' sh -c 'tools/prove --minutes 10 clerk && tools/show samples/day.trace'
+	@echo 'samples/README.md explains each line; crates/clerk/out/clerk is the program, started by: tools/run clerk <TRACE'
 
 test:
 	@.ci/run
@@ -24,4 +24,4 @@ bench:
 	@bench/run
 
 clean:
-	@tools/alone 'make clean' rm -rf target
+	@tools/alone 'make clean' sh -c 'rm -rf target crates/*/out'

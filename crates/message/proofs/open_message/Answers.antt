@@ -1,6 +1,5 @@
 use Rattle.shapes.proofs.AnswerLaws.{told_data, told_other}
 use Rattle.message.proofs.AnswerLaws.{tells_opened, open_given, open_shape, open_code, open_data}
-use borrow.Author.Rules.{rules}
 use mathlib.Core.Bool.{not}
 use mathlib.Core.Path.{ap, refl}
 use Rattle.message.proofs.open_message.Goals as goal

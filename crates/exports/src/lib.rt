@@ -1,6 +1,7 @@
 // The desk's library for C (include/box.h): each function returns 01's number, 0 accepted, and gives its bytes to a slice that the
 // caller lends. A lent slice of another length than the answer's is 1, and a refusal leaves it as it was.
 #![tactic(auto)]
+
 ghost use Rattle.std.specs.Prelude.{◌≡◌, length};
 ghost use Rattle.cipher.specs.Answers.{enciphered, deciphered, coded};
 ghost use Rattle.derive.specs.Answers.{card_derivation};

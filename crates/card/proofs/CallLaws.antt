@@ -2,13 +2,12 @@
 use Prim.Native.Nat.{ℕ, ◌+◌, ◌-◌, ◌≤◌, ◌<◌}
 use native.Mathlib.Omega.{arith}
 use native.Mathlib.Nat.{add-sub_cancel_left}
-use mathlib.Core.Path.{◌≡◌, refl, sym, ap, ap₂, subst, ◌∙◌}
-use mathlib.Core.Bool.{Bool, true, false, not, ◌&&◌, ◌||◌, cond, and-false, or-true}
+use mathlib.Core.Path.{◌≡◌, sym, ap, ap₂, subst, ◌∙◌}
+use mathlib.Core.Bool.{Bool, true, false, not, cond}
 use mathlib.Core.List.{List, []}
 use lib.Dec.{eqb}
 use lib.ListN.{length, take, drop, length-append}
 use borrow.Author.Tests.{eq-eqb, ne_eqb, le-leb, lt-leb, not-true, not-false}
-use Rattle.answers.specs.Answers.{a_key as keyYes}
 use Rattle.answers.specs.declared.Refusal.{Refusal}
 use Rattle.answers.specs.Refusals.{number}
 use Rattle.answers.specs.declared.Refusal.TheVariants.{PhaseWrong, NotListed}
@@ -35,7 +34,6 @@ use Rattle.derive.specs.Derivation.{derived, card_label}
 use Rattle.derive.specs.Answers.{card_derivation}
 use Rattle.derive.proofs.Laws as derivations
 use Rattle.derive.proofs.Laws.{length-derived}
-use Rattle.keys.specs.Seeds.{session_seed}
 use Rattle.keys.proofs.AnswerLaws.{counter_yes, length_seed, session_kept, script_kept}
 use Rattle.keys.specs.Answers.{session_key, script_key, counter_key, session_key_kept, script_key_kept}
 use Rattle.pin.specs.declared.PinRead.{PinRead}

@@ -1,77 +1,72 @@
 // The clerk's program: the trace on standard input is answered on standard output. Blocks of up to 65,536 bytes are read, and the answers to
 // the lines that a block completes are written before the next is read.
 #![tactic(auto)]
-ghost use Rattle.std.specs.Prelude.{◌≤◌, length, ◌≡◌, true};
-ghost use Rattle.lines.specs.Said.{longest_answer};
-ghost use Rattle.trace.specs.Feeding.{after_all};
 
-use libc::{STDIN_FILENO, STDOUT_FILENO};
+ghost use Rattle.std.specs.Prelude.{◌≤◌, ◌<◌, ◌-◌, ◌^◌, length, ◌≡◌, IfOk, IfSome, OnOk};
+ghost use Rattle.std.specs.Io.KnownBytes.{Appends};
+ghost use Rattle.lines.specs.Said.{longest_answer};
+ghost use Rattle.trace.specs.Feeding.{after_all, answers_all};
+ghost use Rattle.trace.specs.Traced.{traced};
+ghost use Rattle.clerk.specs.Answered.{Answered};
+
+use std::io;
+use std::io::{Read, Write};
 use trace::Trace;
 
-// The trace after a block, and whether all its answers were written.
-#[derive(Clone, Copy)]
-struct Went {
-    trace: Trace,
-    on: bool,
-}
-
 // Feeds a block, and writes the answers by way of a buffer. It stops at the first that cannot be written: none is left out.
-fn answer(trace: Trace, block: &[u8], out: &mut [u8]) -> Went
+fn answer<W: Write>(trace: Trace, block: &[u8], out: &mut [u8], to: &mut W) -> io::Result<Trace>
     requires { longest_answer ≤ length out.old }
-    ensures { result.on ≡ true → result.trace ≡ after_all trace block.now }
+    ensures trace { IfOk result (λ t. t ≡ after_all trace block.now) }
+    ensures written { OnOk result (Appends (W.contents to.old) (W.contents to.new) (answers_all trace block.now)) }
 {
     let mut t = trace;
     let mut from = 0;
     while from < block.len() {
         let f = trace::feed_into(t, &block[from..], out);
         let n = f.written;
-        if !io::write_all(STDOUT_FILENO, &out[..n]) {
-            return Went {
-                trace: t,
-                on: false,
-            };
-        }
+        to.write_all(&out[..n])?;
         t = f.trace;
         from += f.taken;
     }
-    Went { trace: t, on: true }
+    Ok(t)
 }
 
-// Answers the input block by block to its end, or until an answer cannot be written. A proved loop has to end, and nothing says that the input
-// does: so the turns are counted down from a number that no run uses up.
-fn answer_all(block: &mut [u8], out: &mut [u8]) -> Went
+// Answers the input block by block to its end, or until it cannot be read or an answer cannot be written. A proved loop has to end, and nothing
+// says that the input does: so the turns are counted up to a number that no run reaches.
+fn answer_all<R: Read, W: Write>(
+    block: &mut [u8],
+    out: &mut [u8],
+    from: &mut R,
+    to: &mut W,
+) -> io::Result<Trace>
     requires { longest_answer ≤ length out.old }
+    ensures { IfOk result (λ t. 0 < length block.old → Answered (R.remaining from.old) (R.remaining from.new) (W.contents to.old) (W.contents to.new) t) }
 {
     let mut t = trace::begin();
-    let mut turns = u64::MAX;
-    while turns > 0 {
-        let got = libc::read(STDIN_FILENO, block);
-        let n = io::count(got, block);
+    for _ in 0..u64::MAX {
+        let n = from.read(block)?;
         if n == 0 {
-            return Went { trace: t, on: true };
+            return Ok(t);
         }
-        let w = answer(t, &block[..n], out);
-        t = w.trace;
-        if !w.on {
-            return Went {
-                trace: t,
-                on: false,
-            };
-        }
-        turns -= 1;
+        t = answer(t, &block[..n], out, to)?;
     }
-    Went { trace: t, on: true }
+    Ok(t)
 }
 
-fn main() {
-    let mut block = io::large_buffer();
-    let mut out = io::large_buffer();
-    let w = answer_all(&mut block, &mut out);
-    if w.on {
-        let t = w.trace;
-        let last = trace::end(t);
-        let text = last.answer;
-        let n = last.count as usize;
-        io::write_all(STDOUT_FILENO, &text[..n]);
-    }
+// Answers all that the input gives, and its end: where the bytes are known, what is written is the trace's whole output.
+fn run<R: Read, W: Write>(from: &mut R, to: &mut W) -> io::Result<()>
+    ensures { OnOk result (IfSome (R.remaining from.old) (λ input. length input < 2 ^ 64 - 1 → Appends (W.contents to.old) (W.contents to.new) (traced input))) }
+{
+    let mut block = [0; 65536];
+    let mut out = [0; 65536];
+    let t = answer_all(&mut block, &mut out, from, to)?;
+    let last = trace::end(t);
+    let text = last.answer;
+    let n = last.count as usize;
+    to.write_all(&text[..n])?;
+    Ok(())
+}
+
+fn main(rt: HostRuntime) -> io::Result<()> {
+    run(&mut rt.stdin(), &mut rt.stdout())
 }

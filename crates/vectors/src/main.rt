@@ -1,14 +1,17 @@
 // Runs the published vectors. A line of the input names document, clause and operation and gives the inputs in hexadecimal;
 // a line of the output repeats the three names and gives what the box computes. The file stdout has the published values.
 #![tactic(auto)]
+
 mod readings;
 
 ghost use Rattle.std.specs.Prelude.{◌≤◌, ◌<◌, length};
+ghost use Rattle.std.specs.Io.{ReadsAtMost};
 
 use answers::{BlockAnswer, KeyAnswer};
 use cipher::CodeAnswer;
 use cryptogram::Kind;
-use libc::{STDIN_FILENO, STDOUT_FILENO};
+use std::io;
+use std::io::{Read, Write};
 
 // A word of a line: its first place, and the place after its last.
 #[derive(Clone, Copy)]
@@ -83,39 +86,39 @@ fn unhex(digits: &[u8], out: &mut [u8]) -> usize {
 }
 
 // Writes bytes as hexadecimal digits.
-fn put(bytes: &[u8]) {
+fn put<W: Write>(to: &mut W, bytes: &[u8]) -> io::Result<()> {
     let mut i = 0;
     while i < bytes.len() {
         let digits = octets::hex(bytes[i]);
-        io::write_all(STDOUT_FILENO, &digits);
+        to.write_all(&digits)?;
         i += 1;
     }
+    Ok(())
 }
 
 // What an operation answers: its refusal's number, or its bytes.
-fn answer(code: u8, bytes: &[u8]) {
-    io::write_all(STDOUT_FILENO, b" ");
+fn answer<W: Write>(to: &mut W, code: u8, bytes: &[u8]) -> io::Result<()> {
+    to.write_all(b" ")?;
     if code == 0 {
-        put(bytes);
-        return;
+        return put(to, bytes);
     }
-    io::write_all(STDOUT_FILENO, b"refused ");
-    put(&[code]);
+    to.write_all(b"refused ")?;
+    put(to, &[code])
 }
 
-fn answer_block(r: BlockAnswer) {
+fn answer_block<W: Write>(to: &mut W, r: BlockAnswer) -> io::Result<()> {
     let bytes = r.bytes;
-    answer(r.code, &bytes);
+    answer(to, r.code, &bytes)
 }
 
-fn answer_code(r: CodeAnswer) {
+fn answer_code<W: Write>(to: &mut W, r: CodeAnswer) -> io::Result<()> {
     let bytes = r.bytes;
-    answer(r.code, &bytes);
+    answer(to, r.code, &bytes)
 }
 
-fn answer_key(r: KeyAnswer) {
+fn answer_key<W: Write>(to: &mut W, r: KeyAnswer) -> io::Result<()> {
     let bytes = r.bytes;
-    answer(r.code, &bytes);
+    answer(to, r.code, &bytes)
 }
 
 // A number of one or two bytes, high first.
@@ -136,24 +139,29 @@ fn wide(x: u8) -> u16
 }
 
 // The IDN of as many bytes as n says.
-fn idn(key: &[u8], counter: &[u8], n: &[u8]) {
+fn idn<W: Write>(to: &mut W, key: &[u8], counter: &[u8], n: &[u8]) -> io::Result<()> {
     if n.len() != 1 {
-        return;
+        return Ok(());
     }
     let r = keys::idn(key, number(counter), n[0]);
     let bytes = r.bytes;
-    answer(r.code, first(&bytes, number(n) as usize));
+    answer(to, r.code, first(&bytes, number(n) as usize))
 }
 
-fn card_key(packed: bool, key: &[u8], digits: &[u8], sequence: &[u8]) {
+fn card_key<W: Write>(
+    to: &mut W,
+    packed: bool,
+    key: &[u8],
+    digits: &[u8],
+    sequence: &[u8],
+) -> io::Result<()> {
     if sequence.len() != 1 {
-        return;
+        return Ok(());
     }
     if packed {
-        answer_key(keys::card_key_packed(key, digits, sequence[0]));
-        return;
+        return answer_key(to, keys::card_key_packed(key, digits, sequence[0]));
     }
-    answer_key(keys::card_key(key, digits, sequence[0]));
+    answer_key(to, keys::card_key(key, digits, sequence[0]))
 }
 
 // Whether the key kept gives the same bytes, where key, label and seed have the lengths for it.
@@ -178,122 +186,108 @@ fn agrees_kept(key: &[u8], label: &[u8], seed: &[u8], bytes: &[u8]) -> bool {
 }
 
 // The derivation with a label of its own; where the key kept gives another, no answer.
-fn labelled(key: &[u8], label: &[u8], seed: &[u8]) {
+fn labelled<W: Write>(to: &mut W, key: &[u8], label: &[u8], seed: &[u8]) -> io::Result<()> {
     let r = derive::derivation(key, label, seed);
     let bytes = r.bytes;
     if !agrees_kept(key, label, seed, &bytes) {
-        return;
+        return Ok(());
     }
-    answer(r.code, &bytes);
+    answer(to, r.code, &bytes)
 }
 
 // The operations of `pin`.
-fn run_pins(name: &[u8], a: &[u8], b: &[u8]) {
+fn run_pins<W: Write>(to: &mut W, name: &[u8], a: &[u8], b: &[u8]) -> io::Result<()> {
     if octets::same(name, b"write-pin") {
-        answer_block(pin::write_pin(a));
-        return;
+        return answer_block(to, pin::write_pin(a));
     }
     if octets::same(name, b"encipher-pin") {
-        answer_block(pin::encipher_pin(a, b));
-        return;
+        return answer_block(to, pin::encipher_pin(a, b));
     }
-    io::write_all(STDOUT_FILENO, b" unknown");
+    to.write_all(b" unknown")
 }
 
 // The operations of `cryptogram`.
-fn run_cryptograms(name: &[u8], a: &[u8], b: &[u8], c: &[u8]) {
+fn run_cryptograms<W: Write>(
+    to: &mut W,
+    name: &[u8],
+    a: &[u8],
+    b: &[u8],
+    c: &[u8],
+) -> io::Result<()> {
     if octets::same(name, b"arqc") {
-        answer_block(cryptogram::cryptogram(a, Kind::Arqc, number(b), c));
-        return;
+        return answer_block(to, cryptogram::cryptogram(a, Kind::Arqc, number(b), c));
     }
     if octets::same(name, b"tc") {
-        answer_block(cryptogram::cryptogram(a, Kind::Tc, number(b), c));
-        return;
+        return answer_block(to, cryptogram::cryptogram(a, Kind::Tc, number(b), c));
     }
     if octets::same(name, b"aac") {
-        answer_block(cryptogram::cryptogram(a, Kind::Aac, number(b), c));
-        return;
+        return answer_block(to, cryptogram::cryptogram(a, Kind::Aac, number(b), c));
     }
     if octets::same(name, b"arpc") {
-        answer_block(cryptogram::arpc(a, b, c));
-        return;
+        return answer_block(to, cryptogram::arpc(a, b, c));
     }
-    run_pins(name, a, b);
+    run_pins(to, name, a, b)
 }
 
 // The operations of `keys`.
-fn run_keys(name: &[u8], a: &[u8], b: &[u8], c: &[u8]) {
+fn run_keys<W: Write>(to: &mut W, name: &[u8], a: &[u8], b: &[u8], c: &[u8]) -> io::Result<()> {
     if octets::same(name, b"card-key") {
-        card_key(false, a, b, c);
-        return;
+        return card_key(to, false, a, b, c);
     }
     if octets::same(name, b"card-key-packed") {
-        card_key(true, a, b, c);
-        return;
+        return card_key(to, true, a, b, c);
     }
     if octets::same(name, b"session-key") {
-        answer_key(keys::session_key(a, number(b)));
-        return;
+        return answer_key(to, keys::session_key(a, number(b)));
     }
     if octets::same(name, b"script-key") {
-        answer_key(keys::script_key(a, b));
-        return;
+        return answer_key(to, keys::script_key(a, b));
     }
     if octets::same(name, b"counter-key") {
-        answer_key(keys::counter_key(a));
-        return;
+        return answer_key(to, keys::counter_key(a));
     }
     if octets::same(name, b"idn") {
-        idn(a, b, c);
-        return;
+        return idn(to, a, b, c);
     }
-    run_cryptograms(name, a, b, c);
+    run_cryptograms(to, name, a, b, c)
 }
 
 // The operations of `hash` and `derive`.
-fn run_hash(name: &[u8], a: &[u8], b: &[u8], c: &[u8]) {
+fn run_hash<W: Write>(to: &mut W, name: &[u8], a: &[u8], b: &[u8], c: &[u8]) -> io::Result<()> {
     if octets::same(name, b"hash") {
-        answer(0, &hash::hash(a));
-        return;
+        return answer(to, 0, &hash::hash(a));
     }
     if octets::same(name, b"hmac") {
-        answer_key(derive::hmac(a, b));
-        return;
+        return answer_key(to, derive::hmac(a, b));
     }
     if octets::same(name, b"derive") {
-        labelled(a, b, c);
-        return;
+        return labelled(to, a, b, c);
     }
-    run_keys(name, a, b, c);
+    run_keys(to, name, a, b, c)
 }
 
 // The operations of `cipher`, and the readings of the octet order.
-fn run(name: &[u8], a: &[u8], b: &[u8], c: &[u8]) {
+fn run<W: Write>(to: &mut W, name: &[u8], a: &[u8], b: &[u8], c: &[u8]) -> io::Result<()> {
     if octets::same(name, b"code") {
-        answer_code(cipher::code(a, b));
-        return;
+        return answer_code(to, cipher::code(a, b));
     }
     if octets::same(name, b"encipher") {
-        answer_block(cipher::encipher(a, b));
-        return;
+        return answer_block(to, cipher::encipher(a, b));
     }
     if octets::same(name, b"decipher") {
-        answer_block(cipher::decipher(a, b));
-        return;
+        return answer_block(to, cipher::decipher(a, b));
     }
     if octets::same(name, b"readings.code") {
-        readings::code(a, b, c);
-        return;
+        return readings::code(to, a, b, c);
     }
     if octets::same(name, b"readings.idn") {
-        readings::idn(a, b, c);
-        return;
+        return readings::idn(to, a, b, c);
     }
-    run_hash(name, a, b, c);
+    run_hash(to, name, a, b, c)
 }
 
 // The inputs after the operation's name, and the operation on them.
-fn operation(line: &[u8], name: Word) {
+fn operation<W: Write>(to: &mut W, line: &[u8], name: Word) -> io::Result<()> {
     let w1 = after(line, name);
     let w2 = after(line, w1);
     let w3 = after(line, w2);
@@ -304,40 +298,57 @@ fn operation(line: &[u8], name: Word) {
     let n2 = unhex(part(line, w2), &mut b);
     let n3 = unhex(part(line, w3), &mut c);
     run(
+        to,
         part(line, name),
         first(&a, n1),
         first(&b, n2),
         first(&c, n3),
-    );
+    )
 }
 
 // One line: three names, then up to three inputs.
-fn line_of(line: &[u8]) {
+fn line_of<W: Write>(to: &mut W, line: &[u8]) -> io::Result<()> {
     let document = Word {
         from: 0,
         to: find(line, 0, b' '),
     };
     let name = after(line, after(line, document));
-    io::write_all(STDOUT_FILENO, first(line, name.to));
-    operation(line, name);
-    io::write_all(STDOUT_FILENO, b"\n");
+    to.write_all(first(line, name.to))?;
+    operation(to, line, name)?;
+    to.write_all(b"\n")
 }
 
 // The lines of a text, one after the other.
-fn lines_of(text: &[u8]) {
+fn lines_of<W: Write>(to: &mut W, text: &[u8]) -> io::Result<()> {
     let mut at = 0;
     while at < text.len() {
         let end = find(text, at, b'\n');
-        line_of(&text[at..end]);
+        line_of(to, &text[at..end])?;
         if text.len() <= end {
-            return;
+            return Ok(());
         }
         at = end + 1;
     }
+    Ok(())
 }
 
-fn main() {
-    let mut text = io::large_buffer();
-    let n = io::read_full(STDIN_FILENO, &mut text);
-    lines_of(&text[..n]);
+// Reads until a buffer is full or the input ends, and says how many bytes it put at its start.
+fn read_full<R: Read>(from: &mut R, text: &mut [u8]) -> io::Result<usize>
+    ensures { ReadsAtMost result text.new }
+{
+    let mut n = 0;
+    while n < text.len() {
+        let got = from.read(&mut text[n..])?;
+        if got == 0 {
+            return Ok(n);
+        }
+        n += got;
+    }
+    Ok(n)
+}
+
+fn main(rt: HostRuntime) -> io::Result<()> {
+    let mut text = [0; 65536];
+    let n = read_full(&mut rt.stdin(), &mut text)?;
+    lines_of(&mut rt.stdout(), &text[..n])
 }

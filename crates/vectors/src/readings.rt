@@ -1,7 +1,8 @@
 // Which octet order the vectors settle: a code or an IDN under both readings of 01, least significant octet first (RFC 5830)
 // and most significant octet first (RFC 8891), and for a code each half of the last state in each order.
 use cipher::Halves;
-use libc::STDOUT_FILENO;
+use std::io;
+use std::io::Write;
 
 // A word of four octets in one of the two orders.
 fn word(most: bool, a: u8, b: u8, c: u8, d: u8) -> u32 {
@@ -45,66 +46,79 @@ fn four_turned(b: [u8; 4]) -> [u8; 4] {
 }
 
 // One candidate: its name, its value, and whether it is what is published.
-fn candidate(name: &[u8], value: &[u8], published: &[u8]) {
-    io::write_all(STDOUT_FILENO, b"\n  ");
-    io::write_all(STDOUT_FILENO, name);
-    crate::put(value);
+fn candidate<W: Write>(to: &mut W, name: &[u8], value: &[u8], published: &[u8]) -> io::Result<()> {
+    to.write_all(b"\n  ")?;
+    to.write_all(name)?;
+    crate::put(to, value)?;
     if octets::same(value, published) {
-        io::write_all(STDOUT_FILENO, b" yes");
-    } else {
-        io::write_all(STDOUT_FILENO, b" no");
+        return to.write_all(b" yes");
     }
+    to.write_all(b" no")
 }
 
 // The halves of a state in each order.
-fn halves(s: Halves, published: &[u8]) {
+fn halves<W: Write>(to: &mut W, s: Halves, published: &[u8]) -> io::Result<()> {
     let n1 = octets::word_octets(s.n1);
     let n2 = octets::word_octets(s.n2);
-    candidate(b"N1 least first ", &n1, published);
-    candidate(b"N1 most first  ", &four_turned(n1), published);
-    candidate(b"N2 least first ", &n2, published);
-    candidate(b"N2 most first  ", &four_turned(n2), published);
+    candidate(to, b"N1 least first ", &n1, published)?;
+    candidate(to, b"N1 most first  ", &four_turned(n1), published)?;
+    candidate(to, b"N2 least first ", &n2, published)?;
+    candidate(to, b"N2 most first  ", &four_turned(n2), published)
 }
 
 // The code of a string under both readings.
-pub(crate) fn code(key: &[u8], string: &[u8], published: &[u8]) {
+pub(crate) fn code<W: Write>(
+    to: &mut W,
+    key: &[u8],
+    string: &[u8],
+    published: &[u8],
+) -> io::Result<()> {
     let start = Halves { n1: 0, n2: 0 };
-    io::write_all(STDOUT_FILENO, b"\n least significant octet first");
+    to.write_all(b"\n least significant octet first")?;
     halves(
+        to,
         cipher::absorb_all(subkeys(false, key), start, string),
         published,
-    );
+    )?;
     let mut other = [0u8; 1024];
     turned(string, &mut other);
-    io::write_all(STDOUT_FILENO, b"\n most significant octet first");
+    to.write_all(b"\n most significant octet first")?;
     halves(
+        to,
         cipher::absorb_all(
             subkeys(true, key),
             start,
             crate::first(&other, string.len()),
         ),
         published,
-    );
+    )
 }
 
 // An IDN under both readings: as many octets of the enciphered counter as are published.
-pub(crate) fn idn(key: &[u8], counter: &[u8], published: &[u8]) {
+pub(crate) fn idn<W: Write>(
+    to: &mut W,
+    key: &[u8],
+    counter: &[u8],
+    published: &[u8],
+) -> io::Result<()> {
     if counter.len() != 2 {
-        return;
+        return Ok(());
     }
     let b = [counter[0], counter[1], 0, 0, 0, 0, 0, 0];
     let least = cipher::encipher_with(subkeys(false, key), b);
     candidate(
+        to,
         b"least significant octet first ",
         crate::first(&least, published.len()),
         published,
-    );
+    )?;
     let c = [0, 0, 0, 0, 0, 0, counter[1], counter[0]];
     let x = cipher::encipher_with(subkeys(true, key), c);
     let most = [x[7], x[6], x[5], x[4], x[3], x[2], x[1], x[0]];
     candidate(
+        to,
         b"most significant octet first  ",
         crate::first(&most, published.len()),
         published,
-    );
+    )
 }

@@ -2,7 +2,6 @@ use mathlib.Core.Path.{refl}
 use native.Mathlib.Omega.{arith}
 use Rattle.shapes.proofs.AnswerLaws.{told_data}
 use Rattle.card.proofs.CallLaws.{judge_header, judge_shape, judge_unlisted, judge_listed, judge_end, judge_data}
-use borrow.Author.Rules.{rules}
 use Rattle.card.proofs.judge.Goals as goal
 
 pub returns-then-header-ne4 : goal.returns-then-header-ne4

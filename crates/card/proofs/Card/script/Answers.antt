@@ -1,5 +1,4 @@
 use Rattle.card.proofs.CallLaws.{none_fits}
-use borrow.Author.Rules.{rules}
 use Rattle.card.proofs.Card.script.Goals as goal
 
 pub returns : goal.returns

@@ -1,5 +1,4 @@
 use Rattle.card.proofs.CallLaws.{unsound, script_idle, script_on}
-use borrow.Author.Rules.{rules}
 use Rattle.card.proofs.Card.script_kept.Goals as goal
 
 pub returns-then-not-is_sound : goal.returns-then-not-is_sound

@@ -1,5 +1,5 @@
 -- The rules of before, computed. Assumes nothing.
-use mathlib.Core.Path.{◌≡◌, refl}
+use mathlib.Core.Path.{refl}
 use Rattle.octets.specs.Numbers.{be, le}
 use Rattle.octets.specs.Same.{same}
 use Rattle.octets.specs.Digits.{digits, hex_digit, hex_octet, hex_value}
@@ -11,12 +11,11 @@ use Rattle.pin.specs.CounterBlock.{counters_of}
 use Rattle.pin.specs.Answers.{found, no_pin, read_block}
 use Rattle.transaction.specs.Transaction.{pending_fits, rest_fits}
 use Rattle.card.specs.Record.{sound}
-use Rattle.card.specs.Calls.{judged_under, due_under, after_under, plain, CheckPin, step, judged_script}
+use Rattle.card.specs.Calls.{judged_under, due_under, after_under, judged_script}
 use Rattle.card.specs.Personalise.{personalised}
-use Rattle.lines.specs.declared.Held.{Held}
-use Rattle.lines.specs.Lines.{lines_from, legible, octet_of, octets_of, hexadecimal, readable, readable_under, hex_text, line_for}
-use Rattle.lines.specs.Answers.{LineAnswer, holding, numbered, octets_for, replied}
-use Rattle.frames.specs.Frames.{part, personalised_by_under, starts, overlong, called_under, calling, calling_under, framed_under, answer_to, answer_to_under}
+use Rattle.lines.specs.Lines.{lines_from, legible, octet_of, octets_of, hexadecimal, readable_under, hex_text, line_for}
+use Rattle.lines.specs.Answers.{octets_for, replied}
+use Rattle.frames.specs.Frames.{part, personalised_by_under, starts, overlong, called_under, calling_under, framed_under, answer_to_under}
 use Rattle.trace.specs.Traced.{answers_under, traced_under}
 use Rattle.octets.specs.Lengths.{key_fits}
 use Rattle.shapes.specs.Answers.{answer_under, shaped_under}

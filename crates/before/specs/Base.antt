@@ -1,5 +1,5 @@
 -- The rules before a wish: those of today with what the wish moved as it was. Assumes nothing.
-use Rattle.std.specs.Prelude.{ℕ, false, List, [], ◌∷◌}
+use Rattle.std.specs.Prelude.{ℕ, false, [], ◌∷◌}
 use Rattle.shapes.specs.Rules.{Rules, present}
 
 -- Wish 1. 01: "one length byte L from 0 to 127"; "more than 280 digits is 13"

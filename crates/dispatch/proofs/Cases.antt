@@ -1,11 +1,11 @@
 -- The cases of the frames: computed, and that 04, 05 and 06 with bytes after change nothing. Assumes nothing.
 use Prim.Native.Nat.{ℕ, ◌≤◌}
 use native.Mathlib.Omega.{arith}
-use mathlib.Core.Path.{◌≡◌, refl, sym, ap, ◌∙◌}
+use mathlib.Core.Path.{◌≡◌, refl}
 use mathlib.Core.Bool.{Bool, true, false, cond}
-use mathlib.Core.List.{List, [], ◌∷◌}
+use mathlib.Core.List.{List, ◌∷◌}
 use lib.Dec.{eqb}
-use lib.ListN.{length, get_or, drop}
+use lib.ListN.{length}
 use borrow.Author.Tests.{ne_eqb, eqb-false}
 use Rattle.octets.specs.Numbers.{be, le}
 use Rattle.octets.specs.Same.{same}
@@ -22,7 +22,7 @@ use Rattle.card.specs.Calls.{judged_under, due_under, after_under, plain, CheckP
 use Rattle.card.specs.Personalise.{personalised}
 use Rattle.lines.specs.declared.Held.{Held}
 use Rattle.lines.specs.Lines.{lines_from, legible, octet_of, octets_of, hexadecimal, readable, readable_under, hex_text, line_for}
-use Rattle.lines.specs.Answers.{LineAnswer, holding, numbered, octets_for, replied}
+use Rattle.lines.specs.Answers.{holding, octets_for, replied}
 use Rattle.frames.specs.Frames.{part, personalised_by_under, starts, overlong, called_under, calling, calling_under, framed_under, answer_to, answer_to_under}
 use Rattle.trace.specs.Traced.{answers_under, traced_under}
 use Rattle.dispatch.specs.Cases.{TraceCases}

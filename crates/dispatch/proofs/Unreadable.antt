@@ -21,7 +21,7 @@ use Rattle.transaction.specs.Transaction.{is_open, is_arqc}
 use Rattle.card.specs.declared.Card.{Card}
 use Rattle.card.specs.Keys.{smc_key}
 use Rattle.card.specs.Record.{sound, full_tries}
-use Rattle.card.specs.Calls.{Call, Open, IssuerAnswer, Script, Close, Withdraw, Counters, Check, strikes, Verdict, refuse, accept, first_struck, read, unlisted, why_unlisted, unread, judged_script, arpc_for, judged, judged_under, Answer as CallAnswer, only, gives, due_by, due, due_under, CheckPin, is_kept}
+use Rattle.card.specs.Calls.{Call, Open, IssuerAnswer, Script, Close, Withdraw, Counters, strikes, Verdict, refuse, accept, first_struck, read, unlisted, why_unlisted, unread, judged_script, arpc_for, judged, judged_under, Answer as CallAnswer, only, gives, due_by, due, due_under, CheckPin, is_kept}
 use Rattle.card.specs.Personalise.{fresh, loading, loaded_by, personalised}
 use Rattle.lines.specs.declared.Held.{Held}
 use Rattle.lines.specs.Lines.{last_frame, octets_of, readable}

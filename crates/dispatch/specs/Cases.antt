@@ -1,6 +1,5 @@
 -- What the frames say once, in cases said of a line's own signs: a slip there, made in the code alike, is refused here. Assumes nothing.
 use Rattle.std.specs.Prelude.{ℕ, ◌≤◌, ◌≡◌, true, List, [], ◌∷◌, ◌++◌, replicate, take}
-use Rattle.card.specs.declared.Card.{Card}
 use Rattle.lines.specs.declared.Held.{Held}
 use Rattle.lines.specs.Lines.{octets_of, readable, hex_text}
 use Rattle.lines.specs.Answers.{nothing, holding, numbered}

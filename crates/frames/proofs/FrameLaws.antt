@@ -1,14 +1,12 @@
 -- One law for each way out of a frame's functions. Assumes nothing.
-use Prim.Native.Nat.{ℕ, zero, suc, ◌+◌, ◌-◌, ◌/◌, ◌%◌, ◌≤◌, ◌<◌}
+use Prim.Native.Nat.{ℕ, zero, suc, ◌-◌, ◌/◌, ◌%◌, ◌≤◌, ◌<◌}
 use native.Mathlib.Omega.{arith}
-use native.Mathlib.Nat.{zero-lt-suc}
-use native.Mathlib.Numerals.{sub-one}
 use mathlib.Core.Path.{◌≡◌, refl, sym, ap, ap₂, ◌∙◌}
 use mathlib.Core.Bool.{Bool, true, false, not, ◌&&◌, ◌||◌, cond, and-eq-true_iff}
-use mathlib.Core.List.{List, [], ◌∷◌, ◌++◌}
+use mathlib.Core.List.{List, [], ◌∷◌}
 use lib.Dec.{leb, eqb}
 use lib.ListN.{length, get_or, take, drop, length-take, length-drop, drop_of_length-le}
-use lib.Seq.{take_all, get_or-take, length-take-le, drop-nil, take-nil}
+use lib.Seq.{take_all, get_or-take, take-nil}
 use borrow.Author.Tests.{eq-eqb, ne_eqb, le-leb, lt-leb, eqb-true, eqb-false, not-true, not-false}
 use Rattle.octets.specs.Numbers.{be}
 use Rattle.octets.proofs.Arms.{None}
@@ -22,7 +20,7 @@ use Rattle.card.specs.Personalise.{personalised}
 use Rattle.lines.specs.declared.Held.{Held}
 use Rattle.lines.specs.declared.Said.{Said}
 use Rattle.lines.specs.Lines.{longest, kept_signs, last_frame, legible, hexadecimal, octets_of, readable, readable_under}
-use Rattle.lines.specs.Answers.{LineAnswer, holding, numbered, replied}
+use Rattle.lines.specs.Answers.{holding, numbered, replied}
 use Rattle.lines.specs.Said.{said}
 use Rattle.frames.specs.Frames.{part, tries_in, personalised_by, personalised_by_under, starts, overlong, bare, called, called_under, calling_under, framed, framed_under, answer_to, answer_to_under}
 

@@ -12,7 +12,7 @@ use Rattle.card.specs.Calls.{Open, IssuerAnswer, Script, Close, Withdraw, Counte
 use Rattle.card.proofs.MasterLaws.{masters_stay}
 use Rattle.lines.specs.declared.Held.{Held}
 use Rattle.lines.specs.Lines.{octets_of, readable}
-use Rattle.lines.specs.Answers.{LineAnswer, numbered, replied}
+use Rattle.lines.specs.Answers.{numbered, replied}
 use Rattle.frames.specs.Frames.{overlong, called, called_under, calling, calling_under, framed, framed_under, answer_to, answer_to_under}
 
 masters_called : (r : Card) (f : ℕ) (s : List ℕ) → masters (called r f s).card ≡ masters r

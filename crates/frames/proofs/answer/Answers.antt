@@ -1,5 +1,4 @@
 use Rattle.card.proofs.MasterLaws.{none_fit}
-use borrow.Author.Rules.{rules}
 use Rattle.frames.proofs.answer.Goals as goal
 
 pub returns : goal.returns

@@ -1,7 +1,6 @@
 use Rattle.frames.proofs.FrameLaws.{answer_long, answer_foreign}
 use mathlib.Core.Path.{sym, ◌∙◌}
 use borrow.Author.Tests.{not-false}
-use native.Mathlib.Omega.{arith}
 use lib.Seq.{length-take-le}
 use borrow.Author.Rules.{rules}
 use mathlib.Core.Bool.{not}

@@ -1,5 +1,4 @@
 use Rattle.frames.proofs.FrameLaws.{framed_new, framed_none, framed_one}
-use borrow.Author.Rules.{rules}
 use Rattle.frames.proofs.frame.Goals as goal
 
 pub returns-then-tag-eq0 : goal.returns-then-tag-eq0

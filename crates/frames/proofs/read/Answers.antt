@@ -1,5 +1,4 @@
 use Rattle.frames.proofs.FrameLaws.{read_above, read_done, hexadecimal_some}
-use borrow.Author.Rules.{rules}
 use Rattle.frames.proofs.read.Goals as goal
 
 pub returns-then-tag-gt-LAST_FRAME : goal.returns-then-tag-gt-LAST_FRAME

@@ -2,7 +2,7 @@
 // the lines that a block completes are written before the next is read.
 #![tactic(auto)]
 
-ghost use Rattle.std.specs.Prelude.{◌≤◌, ◌<◌, ◌-◌, ◌^◌, length, ◌≡◌, IfOk, IfSome, OnOk};
+ghost use Rattle.std.specs.Prelude.{◌≤◌, ◌<◌, ◌-◌, ◌^◌, length, ◌≡◌, IfOk, IfSome, OnErr, OnOk};
 ghost use Rattle.std.specs.Io.KnownBytes.{Appends};
 ghost use Rattle.lines.specs.Said.{longest_answer};
 ghost use Rattle.trace.specs.Feeding.{after_all, answers_all};
@@ -18,6 +18,7 @@ fn answer<W: Write>(trace: Trace, block: &[u8], out: &mut [u8], to: &mut W) -> i
     requires { longest_answer ≤ length out.old }
     ensures trace { IfOk result (λ t. t ≡ after_all trace block.now) }
     ensures written { OnOk result (Appends (W.contents to.old) (W.contents to.new) (answers_all trace block.now)) }
+    ensures err { OnErr result (length out.new ≡ length out.old) }
 {
     let mut t = trace;
     let mut from = 0;
@@ -40,7 +41,9 @@ fn answer_all<R: Read, W: Write>(
     to: &mut W,
 ) -> io::Result<Trace>
     requires { longest_answer ≤ length out.old }
-    ensures { IfOk result (λ t. 0 < length block.old → Answered (R.remaining from.old) (R.remaining from.new) (W.contents to.old) (W.contents to.new) t) }
+    ensures ok { IfOk result (λ t. 0 < length block.old → Answered (R.remaining from.old) (R.remaining from.new) (W.contents to.old) (W.contents to.new) t) }
+    ensures err { OnErr result (length out.new ≡ length out.old) }
+    ensures err_block { OnErr result (length block.new ≡ length block.old) }
 {
     let mut t = trace::begin();
     for _ in 0..u64::MAX {

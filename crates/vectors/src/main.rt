@@ -4,7 +4,7 @@
 
 mod readings;
 
-ghost use Rattle.std.specs.Prelude.{◌≤◌, ◌<◌, length};
+ghost use Rattle.std.specs.Prelude.{◌≡◌, ◌≤◌, ◌<◌, length, OnErr};
 ghost use Rattle.std.specs.Io.{ReadsAtMost};
 
 use answers::{BlockAnswer, KeyAnswer};
@@ -334,7 +334,8 @@ fn lines_of<W: Write>(to: &mut W, text: &[u8]) -> io::Result<()> {
 
 // Reads until a buffer is full or the input ends, and says how many bytes it put at its start.
 fn read_full<R: Read>(from: &mut R, text: &mut [u8]) -> io::Result<usize>
-    ensures { ReadsAtMost result text.new }
+    ensures ok { ReadsAtMost result text.new }
+    ensures err { OnErr result (length text.new ≡ length text.old) }
 {
     let mut n = 0;
     while n < text.len() {

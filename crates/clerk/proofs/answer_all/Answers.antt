@@ -29,8 +29,8 @@ loop-preserved g c =
       ),
     )
 
-pub returns-then-n-eq0 : goal.returns-then-n-eq0
-returns-then-n-eq0 g c =
+pub returns-then-n-eq0-clause-ok : goal.returns-then-n-eq0-clause-ok
+returns-then-n-eq0-clause-ok g c =
     let l = c.loop in
     let i = l.invariant.1 in
     let z : c.in_ok-n.n ≡ 0 = omega arith in
@@ -44,7 +44,7 @@ returns-then-n-eq0 g c =
       all = inl (c.in_ok-n.ensures.bytes.1 z (omega (arith, c.loop.auto.block, c.read.auto.buf)));
     }
 
-pub returns : goal.returns
-returns g c =
+pub returns-clause-ok : goal.returns-clause-ok
+returns-clause-ok g c =
     let i = c.loop.invariant.1 in
     λ h. record { bytes = i.0; read = i.1; trace = i.2; written = i.3; all = inr (omega (arith, i.4)) }

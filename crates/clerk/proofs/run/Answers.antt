@@ -19,4 +19,4 @@ slice_bounds-write_all-end g c =
 pub returns : goal.returns
 returns g c =
     let e : take c.end-last.result.count c.end-last.result.answer ≡ answer_in (ended c.in_ok-t.t) = ap (λ (f : Fed). answer_in f) c.end-last.ensures in
-    whole _ _ _ _ _ c.in_ok-t.t (c.in_ok-t.ensures (omega arith)) (subst (Appends _ _) e c.in_ok-write_all.ensures.bytes)
+    whole _ _ _ _ _ c.in_ok-t.t (c.in_ok-t.ensures.ok (omega arith)) (subst (Appends _ _) e c.in_ok-write_all.ensures.bytes)

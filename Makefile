@@ -2,15 +2,15 @@
 .PHONY: help run test host bench clean
 
 help:
-	@echo 'make run     proves and builds the clerk'"'"'s program and runs a day at the desk through it: 10 minutes from nothing'
-	@echo 'make host    proves the library for C and builds the programs box and desk over it: 15 minutes from nothing'
-	@echo 'make test    the whole gate: 20 to 45 minutes'
+	@echo 'make run     proves and builds the clerk'"'"'s program and runs a day at the desk through it: minutes, from nothing'
+	@echo 'make host    proves the library for C and builds the programs box and desk over it: minutes, from nothing'
+	@echo 'make test    the whole gate: 7 minutes where nothing changed, less than an hour from nothing'
 	@echo 'make bench   times the proved code beside libgcrypt and nettle (docs/SPEED.md)'
 	@echo 'make clean   removes what they built'
-	@echo 'README.md says what it is, CONTRIBUTING.md how to change it. Times are of two x86-64 cores.'
+	@echo 'README.md says what it is, CONTRIBUTING.md how to change it. Times are of four x86-64 processors.'
 
 run:
-	@tools/alone 'make run' sh -c 'tools/prove --minutes 10 clerk && tools/show samples/day.trace'
+	@tools/alone 'make run' sh -c 'tools/prove clerk && tools/show samples/day.trace'
 	@echo 'samples/README.md explains each line; crates/clerk/out/clerk is the program, started by: tools/run clerk <TRACE'
 
 test:

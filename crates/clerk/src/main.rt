@@ -5,13 +5,40 @@
 ghost use Rattle.std.specs.Prelude.{◌≤◌, ◌<◌, ◌-◌, ◌^◌, length, ◌≡◌, IfOk, IfSome, OnErr, OnOk};
 ghost use Rattle.std.specs.Io.KnownBytes.{Appends};
 ghost use Rattle.lines.specs.Said.{longest_answer};
-ghost use Rattle.trace.specs.Feeding.{after_all, answers_all};
+ghost use Rattle.trace.specs.Feeding.{begun, after_all, answers_all};
 ghost use Rattle.trace.specs.Traced.{traced};
-ghost use Rattle.clerk.specs.Answered.{Answered};
+ghost use Rattle.clerk.specs.Answered.{Answered, AppendsSome};
 
 use std::io;
-use std::io::{Read, Write};
+use std::io::{Error, ErrorKind, Read, Write};
 use trace::Trace;
+
+// Writes all of some bytes, as `write_all` does, and says what an error leaves: a beginning of them is written, and nothing else.
+fn write_out<W: Write>(to: &mut W, bytes: &[u8]) -> io::Result<()>
+    ensures ok { OnOk result (Appends (W.contents to.old) (W.contents to.new) bytes.now) }
+    ensures err { OnErr result (AppendsSome (W.contents to.old) (W.contents to.new) bytes.now) }
+{
+    let mut rest = bytes;
+    for _ in 0..u64::MAX {
+        if rest.is_empty() {
+            return Ok(());
+        }
+        match to.write(rest) {
+            Ok(0) => {
+                let message = "failed to write whole buffer";
+                return Err(Error::new(ErrorKind::WriteZero, message));
+            }
+            Ok(n) => rest = &rest[n..],
+            Err(e) => {
+                if e.kind() != ErrorKind::Interrupted {
+                    return Err(e);
+                }
+            }
+        }
+    }
+    let message = "gave up reading or writing after 2^64 tries";
+    Err(Error::new(ErrorKind::TimedOut, message))
+}
 
 // Feeds a block, and writes the answers by way of a buffer. It stops at the first that cannot be written: none is left out.
 fn answer<W: Write>(trace: Trace, block: &[u8], out: &mut [u8], to: &mut W) -> io::Result<Trace>
@@ -19,13 +46,14 @@ fn answer<W: Write>(trace: Trace, block: &[u8], out: &mut [u8], to: &mut W) -> i
     ensures trace { IfOk result (λ t. t ≡ after_all trace block.now) }
     ensures written { OnOk result (Appends (W.contents to.old) (W.contents to.new) (answers_all trace block.now)) }
     ensures err { OnErr result (length out.new ≡ length out.old) }
+    ensures err_written { OnErr result (AppendsSome (W.contents to.old) (W.contents to.new) (answers_all trace block.now)) }
 {
     let mut t = trace;
     let mut from = 0;
     while from < block.len() {
         let f = trace::feed_into(t, &block[from..], out);
         let n = f.written;
-        to.write_all(&out[..n])?;
+        write_out(to, &out[..n])?;
         t = f.trace;
         from += f.taken;
     }
@@ -44,6 +72,7 @@ fn answer_all<R: Read, W: Write>(
     ensures ok { IfOk result (λ t. 0 < length block.old → Answered (R.remaining from.old) (R.remaining from.new) (W.contents to.old) (W.contents to.new) t) }
     ensures err { OnErr result (length out.new ≡ length out.old) }
     ensures err_block { OnErr result (length block.new ≡ length block.old) }
+    ensures err_written { OnErr result (IfSome (R.remaining from.old) (λ input. AppendsSome (W.contents to.old) (W.contents to.new) (answers_all begun input))) }
 {
     let mut t = trace::begin();
     for _ in 0..u64::MAX {
@@ -58,7 +87,8 @@ fn answer_all<R: Read, W: Write>(
 
 // Answers all that the input gives, and its end: where the bytes are known, what is written is the trace's whole output.
 fn run<R: Read, W: Write>(from: &mut R, to: &mut W) -> io::Result<()>
-    ensures { OnOk result (IfSome (R.remaining from.old) (λ input. length input < 2 ^ 64 - 1 → Appends (W.contents to.old) (W.contents to.new) (traced input))) }
+    ensures ok { OnOk result (IfSome (R.remaining from.old) (λ input. length input < 2 ^ 64 - 1 → Appends (W.contents to.old) (W.contents to.new) (traced input))) }
+    ensures err { OnErr result (IfSome (R.remaining from.old) (λ input. length input < 2 ^ 64 - 1 → AppendsSome (W.contents to.old) (W.contents to.new) (traced input))) }
 {
     let mut block = [0; 65536];
     let mut out = [0; 65536];
@@ -66,7 +96,7 @@ fn run<R: Read, W: Write>(from: &mut R, to: &mut W) -> io::Result<()>
     let last = trace::end(t);
     let text = last.answer;
     let n = last.count as usize;
-    to.write_all(&text[..n])?;
+    write_out(to, &text[..n])?;
     Ok(())
 }
 

@@ -1,4 +1,4 @@
--- Feeding again what a full buffer left: the trace goes on as if it had been fed at once, and so do the answers. Assumes nothing.
+-- Feeding again what a full buffer left: the trace goes on as if it had been fed at once, and so do the answers; and what an error leaves. Assumes nothing.
 use Prim.Native.Nat.{ℕ, ◌+◌, ◌-◌, ◌≤◌}
 use native.Mathlib.Nat.{zero-add}
 use mathlib.Core.Path.{◌≡◌, sym, ap, ap₂, ◌∙◌, subst}
@@ -97,6 +97,7 @@ whole (Some s) (Some r) o u v t x w =
 
 -- ---- what an error leaves
 
+-- what a function says of its error, where it hands on another's
 pub at_error : {T E P : Type 0} (r : Result T E) → P → OnErr r P
 at_error (Ok x) p = tt
 at_error (Err e) p = p

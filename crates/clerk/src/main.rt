@@ -40,7 +40,8 @@ fn write_out<W: Write>(to: &mut W, bytes: &[u8]) -> io::Result<()>
     Err(Error::new(ErrorKind::TimedOut, message))
 }
 
-// Feeds a block, and writes the answers by way of a buffer. It stops at the first that cannot be written: none is left out.
+// Feeds a block, and writes the answers by way of a buffer. It stops at the first that cannot be written: none is left out, and a beginning
+// of the answers is written.
 fn answer<W: Write>(trace: Trace, block: &[u8], out: &mut [u8], to: &mut W) -> io::Result<Trace>
     requires { longest_answer ≤ length out.old }
     ensures trace { IfOk result (λ t. t ≡ after_all trace block.now) }
@@ -85,7 +86,8 @@ fn answer_all<R: Read, W: Write>(
     Ok(t)
 }
 
-// Answers all that the input gives, and its end: where the bytes are known, what is written is the trace's whole output.
+// Answers all that the input gives, and its end: where the bytes are known, what is written is the trace's whole output, and at an error a
+// beginning of it.
 fn run<R: Read, W: Write>(from: &mut R, to: &mut W) -> io::Result<()>
     ensures ok { OnOk result (IfSome (R.remaining from.old) (λ input. length input < 2 ^ 64 - 1 → Appends (W.contents to.old) (W.contents to.new) (traced input))) }
     ensures err { OnErr result (IfSome (R.remaining from.old) (λ input. length input < 2 ^ 64 - 1 → AppendsSome (W.contents to.old) (W.contents to.new) (traced input))) }

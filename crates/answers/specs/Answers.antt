@@ -1,18 +1,14 @@
--- Answers of eight and of 32 bytes: "A refusal returns its number only." Assumes nothing.
-use Rattle.std.specs.Prelude.{ℕ, List, replicate}
-use Rattle.answers.specs.declared.BlockAnswer.{BlockAnswer}
-use Rattle.answers.specs.declared.KeyAnswer.{KeyAnswer}
+-- The number that an answer tells, and the length of what is lent. Assumes nothing.
+use Rattle.std.specs.Prelude.{ℕ, cond, List, eqb, length, Result, Ok, Err}
+use Rattle.answers.specs.declared.Refusal.{Refusal}
+use Rattle.answers.specs.declared.Refusal.TheVariants.{Input}
+use Rattle.answers.specs.Refusals.{number}
 
--- eight bytes, or a refusal's number and zeros
-abbrev pub a_block : List ℕ → BlockAnswer
-a_block b = record { code = 0; bytes = b }
+-- "A refusal returns its number only"; an accepted call tells 0
+abbrev pub number_told : {T : Type 0} → Result T Refusal → ℕ
+number_told (Ok x) = 0
+number_told (Err q) = number q
 
-abbrev pub no_block : ℕ → BlockAnswer
-no_block n = record { code = n; bytes = replicate 8 0 }
-
--- 32 bytes, or a refusal's number and zeros
-abbrev pub a_key : List ℕ → KeyAnswer
-a_key k = record { code = 0; bytes = k }
-
-abbrev pub no_key : ℕ → KeyAnswer
-no_key n = record { code = n; bytes = replicate 32 0 }
+-- what is lent for n bytes: "a lent input .. that .. has not the length .. stated" is 1
+abbrev pub exactly : ℕ → List ℕ → Result (List ℕ) Refusal
+exactly n lent = cond (eqb (length lent) n) (Ok lent) (Err Input)

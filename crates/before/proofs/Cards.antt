@@ -9,7 +9,8 @@ use native.Mathlib.Omega.{arith}
 use borrow.Author.Tests.{le-leb, lt-leb}
 use lib.Dec.{leb}
 use lib.ListN.{length, get_or, drop, replicate-append-replicate, length-append, length-drop, length-replicate}
-use Rattle.answers.specs.Answers.{a_key, no_key}
+use Rattle.std.specs.Prelude.{Ok, Err}
+use Rattle.answers.specs.declared.Refusal.TheVariants.{Input, CardNumber}
 use Rattle.octets.specs.Same.{same}
 use Rattle.octets.specs.Digits.{pairs}
 use Rattle.octets.proofs.SameLaws.{same_refl, same_true}
@@ -143,8 +144,8 @@ module _ (base : ℕ) (enough : 10 ≤ base) (x : List ℕ) (least : 14 ≤ leng
 
 module _ (key pan : List ℕ) (q : ℕ) (y z : List ℕ) where
   only_card : (b : Bool) → (b ≡ true → y ≡ z)
-      → cond (key_fits key) (cond b (a_key (derived key card_label y)) (no_key 2)) (no_key 1) ≡ cond (key_fits key) (cond b (a_key (derived key card_label z)) (no_key 2)) (no_key 1)
-  only_card true e = ap (λ (s : List ℕ). cond (key_fits key) (a_key (derived key card_label s)) (no_key 1)) (e refl)
+      → cond (key_fits key) (cond b (Ok (derived key card_label y)) (Err CardNumber)) (Err Input) ≡ cond (key_fits key) (cond b (Ok (derived key card_label z)) (Err CardNumber)) (Err Input)
+  only_card true e = ap (λ (s : List ℕ). cond (key_fits key) (Ok (derived key card_label s)) (Err Input)) (e refl)
   only_card false e = refl
 
   same_answer : (t : Bool) → (card_fits pan q ≡ true → same y z ≡ not t) → (card_fits pan q && t) ≡ false → card_answer key pan q y ≡ card_answer key pan q z

@@ -11,16 +11,17 @@ use lib.ListN.{length, get_or, take, drop, length-take}
 use Rattle.answers.specs.declared.Refusal.TheVariants.{Input, NoRoom, ShapeWrong, PhaseWrong}
 use Rattle.answers.specs.Refusals.{number}
 use Rattle.octets.specs.Same.{same}
-use Rattle.shapes.specs.declared.Opened.TheVariants.{Data, Refused}
+use Rattle.std.specs.Prelude.{Ok, Err}
+use Rattle.shapes.specs.declared.Found.{Found}
 use Rattle.shapes.specs.Rules.{Rules, present}
 use Rattle.shapes.specs.Length.{largest, largest_short}
 use Rattle.shapes.specs.Shape.{tag_fits, code_head, body, body_under, place_of, place_of_under, body_size, body_size_under, size_of_under, tag_of, length_of, length_of_under, data_of, data_of_under, body_of, body_of_under, code_in, code_in_under, shape, shape_under}
-use Rattle.shapes.specs.Answers.{answer, answer_under, shaped, shaped_under}
+use Rattle.shapes.specs.Answers.{found, found_in, found_in_under, shaped, shaped_under}
 use Rattle.shapes.proofs.LengthLaws.{Form, short, long, form, Says, one, two, none, says, says_short, says_long, field_short, place_short, place_long}
 use Rattle.shapes.proofs.ShapeLaws.{shape_good}
 use Rattle.message.specs.Code.{code_for, message, message_under, given, code_fits, code_fits_under}
 use Rattle.octets.specs.Laid.{laid}
-use Rattle.message.specs.Answers.{open_number_under, opened, opened_under, wrap_number, wrap_number_under, wrapped_under, Written}
+use Rattle.message.specs.Answers.{opened, opened_under, wrap_number, wrap_number_under, wrapped_under, Written}
 use Rattle.transaction.specs.Transaction.{is_open}
 use Rattle.card.specs.declared.Card.{Card}
 use Rattle.card.specs.declared.Reply.{Reply}
@@ -113,19 +114,16 @@ module _ (m : List ℕ) (h : get_or m 1 0 ≤ 127) where
   same_fits key header =
       ap₂ (λ (x y : Bool). given key header && (x && y)) same_shape (ap₂ same same_code (ap (code_for key header) same_part))
 
-  same_answer : (r : ℕ) → answer r m ≡ answer_under short_scripts r m
-  unfolding answer_under
-  same_answer r = ap₂ (λ (p n : ℕ). cond (eqb r 0) (Data (tag_of m) p n) (Refused r)) same_place same_length
+  same_found : found_in m ≡ found_in_under short_scripts m
+  same_found = ap₂ (found (tag_of m)) same_place same_length
 
   same_shaped : shaped m ≡ shaped_under short_scripts m
   unfolding shaped_under
-  same_shaped = same_answer (cond (shape m) 0 4) ∙ ap (λ (x : Bool). answer_under short_scripts (cond x 0 4) m) same_shape
+  same_shaped = ap₂ (λ (x : Bool) (f : Found). cond x (Ok f) (Err ShapeWrong)) same_shape same_found
 
   same_opened : (key header : List ℕ) → opened key header m ≡ opened_under short_scripts key header m
-  unfolding opened_under open_number_under
-  same_opened key header =
-      same_answer (cond (given key header) (cond (shape m) (cond (code_fits key header m) 0 8) 4) 1)
-      ∙ ap₂ (λ (x y : Bool). answer_under short_scripts (cond (given key header) (cond x (cond y 0 8) 4) 1) m) same_shape (same_fits key header)
+  unfolding opened_under
+  same_opened key header = rw (same_shape, same_fits key header, same_found)
 
   same_read : (r : Card) (header : List ℕ) → read r header m ≡ read_under short_scripts r header m
   same_read r header = rw (same_shape, same_length, same_fits (smi_key r) header, same_data)
@@ -152,7 +150,7 @@ module _ (m : List ℕ) (l : length m ≤ size_before) (h : 127 < get_or m 1 0) 
       go true e (none x) = let g = shape_good m e in let k = g.most in let n : length_of m ≡ largest + 1 = x in absurd (omega arith)
 
   refused_shaped : shaped m ≡ shaped_under short_scripts m
-  unfolding shaped_under answer_under
+  unfolding shaped_under
   refused_shaped = simp (refused_now, refused_before)
 
   refused_fits : (key header : List ℕ) → code_fits key header m ≡ code_fits_under short_scripts key header m
@@ -160,7 +158,7 @@ module _ (m : List ℕ) (l : length m ≤ size_before) (h : 127 < get_or m 1 0) 
   refused_fits key header = simp (refused_now, refused_before)
 
   refused_opened : (key header : List ℕ) → opened key header m ≡ opened_under short_scripts key header m
-  unfolding opened_under open_number_under answer_under
+  unfolding opened_under
   refused_opened key header = go (given key header) refl
     where
       go : (b : Bool) → given key header ≡ b → opened key header m ≡ opened_under short_scripts key header m

@@ -1,7 +1,7 @@
 -- The rules of before, in computed cases of 01: what a definition under them says does not move with today's. Assumes nothing.
-use Rattle.std.specs.Prelude.{ℕ, ◌≡◌, List, [], ◌∷◌, replicate}
-use Rattle.shapes.specs.declared.Opened.TheVariants.{Data, Refused}
-use Rattle.shapes.specs.Answers.{shaped_under}
+use Rattle.std.specs.Prelude.{ℕ, ◌≡◌, List, [], ◌∷◌, replicate, Ok, Err}
+use Rattle.answers.specs.declared.Refusal.TheVariants.{ShapeWrong}
+use Rattle.shapes.specs.Answers.{found, shaped_under}
 use Rattle.message.specs.Answers.{open_number_under, wrap_number_under}
 use Rattle.lines.specs.declared.Held.{Held}
 use Rattle.lines.specs.Answers.{numbered}
@@ -13,9 +13,9 @@ use Rattle.before.specs.Base.{short_scripts, no_checks}
 
 pub record CasesBefore : Type 0 where
   -- before Wish 1: P10, "L byte 80 with 128 bytes after it is 4; 7f with 127 bytes is good"; 81 80 was 4
-  pub byte_80 : (s : List ℕ) → shaped_under short_scripts (0x81 ∷ 0x80 ∷ s) ≡ Refused 4
-  pub byte_7f : (a b c d : ℕ) → shaped_under short_scripts (message_of (0x7f ∷ []) 127 a b c d) ≡ Data 0x81 2 127
-  pub byte_81 : (a b c d : ℕ) → shaped_under short_scripts (message_of (0x81 ∷ 0x80 ∷ []) 128 a b c d) ≡ Refused 4
+  pub byte_80 : (s : List ℕ) → shaped_under short_scripts (0x81 ∷ 0x80 ∷ s) ≡ Err ShapeWrong
+  pub byte_7f : (a b c d : ℕ) → shaped_under short_scripts (message_of (0x7f ∷ []) 127 a b c d) ≡ Ok (found 0x81 2 127)
+  pub byte_81 : (a b c d : ℕ) → shaped_under short_scripts (message_of (0x81 ∷ 0x80 ∷ []) 128 a b c d) ≡ Err ShapeWrong
   -- opening: 1 ahead of 4; wrapping: 1 ahead of 3, and "Its size is L + 8"
   pub opens_1_4 : open_number_under short_scripts [] [] [] ≡ 1
   pub wraps_1_3 : wrap_number_under short_scripts [] (replicate 4 0) 0x81 0 7 0 ≡ 1

@@ -13,30 +13,26 @@ use Rattle.answers.specs.Refusals.{number}
 use Rattle.answers.specs.declared.Refusal.TheVariants.{PhaseWrong, NotListed}
 use Rattle.octets.specs.Same.{same}
 use Rattle.octets.proofs.NumberLaws.{length-be_octets}
-use Rattle.shapes.specs.declared.Opened.{Opened}
-use Rattle.shapes.specs.declared.Opened.TheVariants.{Data, Refused}
+use Rattle.std.specs.Prelude.{Result, Ok, Err}
+use Rattle.shapes.specs.declared.Found.{Found}
 use Rattle.shapes.specs.declared.command.Command.{Command}
 use Rattle.shapes.specs.declared.command.Command.TheVariants.{SetPin, SetMark, ClearMark}
-use Rattle.shapes.specs.declared.command.Listed.{Listed}
-use Rattle.shapes.specs.declared.command.Listed.TheVariants.{One, Unlisted}
 use Rattle.shapes.specs.Shape.{length_of, tag_of, data_of, data_of_under, shape}
 use Rattle.shapes.specs.Command.{command_of, Lists}
 use Rattle.shapes.specs.Answers.{shaped, Tells}
 use Rattle.shapes.proofs.CommandLaws.{why_unlisted_lem}
 use Rattle.shapes.proofs.AnswerLaws.{Told, told_data, told_refused}
-use Rattle.answers.specs.declared.BlockAnswer.{BlockAnswer}
-use Rattle.cipher.specs.Answers.{enciphered}
-use Rattle.cipher.proofs.AnswerLaws as ciphers
+use Rattle.gost.specs.Gost.{through, forth, subkeys, encipher}
 use Rattle.hash.specs.Hash.{hash256}
-use Rattle.hash.proofs.Laws.{length-hash256}
-use Rattle.answers.specs.declared.KeyAnswer.{KeyAnswer}
 use Rattle.derive.specs.Derivation.{derived, card_label}
-use Rattle.derive.specs.Answers.{card_derivation}
+use Rattle.derive.specs.Answers.{seed_fits}
+use Rattle.derive.specs.Kept.{derived_kept}
 use Rattle.derive.proofs.Laws as derivations
 use Rattle.derive.proofs.Laws.{length-derived}
-use Rattle.keys.proofs.AnswerLaws.{counter_yes, length_seed, session_kept, script_kept}
+use Rattle.keys.specs.Seeds.{session_seed}
+use Rattle.keys.proofs.AnswerLaws.{counter_yes, session_kept, script_kept, session_is, script_is}
 use Rattle.keys.specs.Answers.{session_key, script_key, counter_key, session_key_kept, script_key_kept}
-use Rattle.pin.specs.declared.PinRead.{PinRead}
+use Rattle.pin.specs.declared.Pin.{Pin}
 use Rattle.pin.specs.declared.Counters.{Counters as CounterStruct}
 use Rattle.pin.specs.CounterBlock.{counter_block, counters_of}
 use Rattle.pin.specs.Answers.{decipher_pin, read_block}
@@ -72,24 +68,33 @@ length-session : (r : Card) → length (session_key_of r) ≡ 32
 unfolding session_key_of
 length-session r = length-derived _ _ _
 
-key_made : (key seed : List ℕ) (x : KeyAnswer) → length key ≡ 32 → length seed ≡ 8 → x ≡ card_derivation key seed → x.bytes ≡ derived key card_label seed
-key_made key seed x k l e = ap (λ (y : KeyAnswer). y.bytes) (e ∙ sym (derivations.fits key card_label seed k ∙ derivations.card_seed key seed l))
+same_ok : {x y : List ℕ} → ◌≡◌ {A = Result (List ℕ) Refusal} (Ok x) (Ok y) → x ≡ y
+same_ok e = cc
 
-pub key_session : (r : Card) (x : KeyAnswer) → length r.ac ≡ 32 → x ≡ session_key r.ac r.atc → x.bytes ≡ session_key_of r
-unfolding session_key_of session_key
-key_session r x k e = key_made _ _ x k (length_seed r.atc) e
+-- r is what a crate below answers
+module _ {x : Result (List ℕ) Refusal} {y : List ℕ} (o : x ≡ Ok y) where
+  pub key_session : (r : Card) → length r.ac ≡ 32 → x ≡ session_key r.ac r.atc → y ≡ session_key_of r
+  unfolding session_key_of
+  key_session r k e = same_ok (sym o ∙ e ∙ session_is r.ac k r.atc)
 
-pub key_session_kept : (r : Card) (ws : List ℕ) (x : KeyAnswer) → length r.ac ≡ 32 → length ws ≡ 256 → Fits ws r.ac → x ≡ session_key_kept ws r.atc → x.bytes ≡ session_key_of r
-key_session_kept r ws x k l f e =
-    key_session r x k (e ∙ ap (λ (v : List ℕ). session_key_kept v r.atc) (f l) ∙ session_kept r.ac r.atc k)
+  pub key_session_kept : (r : Card) (ws : List ℕ) → length r.ac ≡ 32 → length ws ≡ 256 → Fits ws r.ac → x ≡ session_key_kept ws r.atc → y ≡ session_key_of r
+  key_session_kept r ws k l f e = key_session r k (e ∙ ap (λ (v : List ℕ). session_key_kept v r.atc) (f l) ∙ session_kept r.ac r.atc k)
 
-pub key_script : (key g : List ℕ) (x : KeyAnswer) → length key ≡ 32 → length g ≡ 8 → x ≡ script_key key g → x.bytes ≡ derived key card_label g
-unfolding script_key
-key_script key g x k l e = key_made key g x k l e
+  pub key_script : (key g : List ℕ) → length key ≡ 32 → length g ≡ 8 → x ≡ script_key key g → y ≡ derived key card_label g
+  key_script key g k l e = same_ok (sym o ∙ e ∙ script_is key k g l)
 
-pub key_script_kept : (key ws g : List ℕ) (x : KeyAnswer) → length key ≡ 32 → length ws ≡ 256 → length g ≡ 8 → Fits ws key → x ≡ script_key_kept ws g → x.bytes ≡ derived key card_label g
-key_script_kept key ws g x k l n f e =
-    key_script key g x k n (e ∙ ap (λ (v : List ℕ). script_key_kept v g) (f l) ∙ script_kept key g k)
+  pub key_script_kept : (key ws g : List ℕ) → length key ≡ 32 → length ws ≡ 256 → length g ≡ 8 → Fits ws key → x ≡ script_key_kept ws g → y ≡ derived key card_label g
+  key_script_kept key ws g k l n f e = key_script key g k n (e ∙ ap (λ (v : List ℕ). script_key_kept v g) (f l) ∙ script_kept key g k)
+
+-- words of whatever key are no refusal
+module _ (ws : List ℕ) (l : length ws ≡ 256) where
+  pub session_answers : (atc : ℕ) → session_key_kept ws atc ≡ Ok (derived_kept ws card_label (session_seed atc))
+  unfolding session_key_kept
+  session_answers atc = sym (derivations.kept_fits_lem ws card_label (session_seed atc) l)
+
+  pub script_answers : (g : List ℕ) → length g ≡ 8 → script_key_kept ws g ≡ Ok (derived_kept ws card_label g)
+  unfolding script_key_kept seed_fits
+  script_answers g n = simp (eq-eqb _ _ n) (sym (derivations.kept_fits_lem ws card_label g l))
 
 -- words that are none fit every key
 pub none_fits : (key : List ℕ) → Fits [] key
@@ -105,32 +110,31 @@ length-counters c =
     simp length-append (omega arith)
 
 module _ (r : Card) (k : List ℕ) (ek : k ≡ session_key_of r) where
-  pub arpc_made : (csu : List ℕ) (x : BlockAnswer) → length r.transaction.cryptogram ≡ 8 → length csu ≡ 4 → x ≡ arpc_answer k r.transaction.cryptogram csu → x.bytes ≡ arpc_for r csu
+  pub arpc_made : (csu y : List ℕ) (x : Result (List ℕ) Refusal) → length r.transaction.cryptogram ≡ 8 → length csu ≡ 4 → x ≡ arpc_answer k r.transaction.cryptogram csu → x ≡ Ok y → y ≡ arpc_for r csu
   unfolding arpc_for
-  arpc_made csu x g l e =
-      ap (λ (y : BlockAnswer). y.bytes)
-      (e ∙ ap (λ (y : List ℕ). arpc_answer y r.transaction.cryptogram csu) ek ∙ sym (cryptograms.arpc_made (session_key_of r) r.transaction.cryptogram csu (length-session r) g l))
+  arpc_made csu y x g l e o =
+      same_ok
+      (sym o ∙ e ∙ ap (λ (z : List ℕ). arpc_answer z r.transaction.cryptogram csu) ek
+      ∙ sym (cryptograms.arpc_made (session_key_of r) r.transaction.cryptogram csu (length-session r) g l))
 
-  pub counters_made : (a : KeyAnswer) (b : List ℕ) (x : BlockAnswer) → a ≡ counter_key k → b ≡ counter_block r.counters → x ≡ enciphered a.bytes b
-      → x.bytes ≡ counters_for r
-  unfolding counters_for counter_key_of enciphered
-  counters_made a b x ea eb ex =
-      ap (λ (y : BlockAnswer). y.bytes)
-      (ex
-      ∙ ap₂ (λ (y : KeyAnswer) (z : List ℕ). enciphered y.bytes z) (ea ∙ ap counter_key ek ∙ sym (counter_yes (session_key_of r) (length-session r))) eb
-      ∙ sym (ciphers.fits (hash256 (session_key_of r)) (counter_block r.counters) _ (length-hash256 _) (length-counters r.counters)))
+  pub counters_made : (a : Result (List ℕ) Refusal) (h m b x : List ℕ) → a ≡ counter_key k → a ≡ Ok h → m ≡ subkeys 8 h → b ≡ counter_block r.counters → x ≡ through (forth m) b
+      → x ≡ counters_for r
+  unfolding counters_for counter_key_of encipher
+  counters_made a h m b x ea o em eb ex =
+      let eh : h ≡ hash256 (session_key_of r) = same_ok (sym o ∙ ea ∙ ap counter_key ek ∙ sym (counter_yes (session_key_of r) (length-session r))) in
+      ex ∙ ap₂ (λ (y z : List ℕ). through (forth y) z) (em ∙ ap (subkeys 8) eh) eb
 
 -- an opened transaction
-pub opened_by : (r : Card) (d k : List ℕ) (kind : Kind) (x : BlockAnswer) (t : Transaction) (n : ℕ) → length d ≡ 65 → k ≡ session_key_of (grown r) → kind ≡ kind_for r.mark
-    → x ≡ cryptogram_answer k kind (r.atc + 1) d → t ≡ just_opened r.mark x.bytes → n ≡ kind_number kind
-    → record { card = with_transaction (grown r) t; code = 0; kind = n; bytes = x.bytes } ≡ reply (accepted r (Open d)) (gives r (Open d))
+pub opened_by : (r : Card) (d k g : List ℕ) (kind : Kind) (x : Result (List ℕ) Refusal) (t : Transaction) (n : ℕ) → length d ≡ 65 → k ≡ session_key_of (grown r) → kind ≡ kind_for r.mark
+    → x ≡ cryptogram_answer k kind (r.atc + 1) d → x ≡ Ok g → t ≡ just_opened r.mark g → n ≡ kind_number kind
+    → record { card = with_transaction (grown r) t; code = 0; kind = n; bytes = g } ≡ reply (accepted r (Open d)) (gives r (Open d))
 unfolding cryptogram_for
-opened_by r d k kind x t n l ek ej ex et en =
-    let w : x.bytes ≡ cryptogram_for (grown r) d =
-    ap (λ (y : BlockAnswer). y.bytes)
-    (ex ∙ ap₂ (λ (y : List ℕ) (z : Kind). cryptogram_answer y z (r.atc + 1) d) ek ej ∙ sym (cryptograms.made (session_key_of (grown r)) (kind_for r.mark) (r.atc + 1) d (length-session (grown r)) l))
+opened_by r d k g kind x t n l ek ej ex o et en =
+    let w : g ≡ cryptogram_for (grown r) d =
+    same_ok
+    (sym o ∙ ex ∙ ap₂ (λ (y : List ℕ) (z : Kind). cryptogram_answer y z (r.atc + 1) d) ek ej ∙ sym (cryptograms.made (session_key_of (grown r)) (kind_for r.mark) (r.atc + 1) d (length-session (grown r)) l))
     in
-    ap₂ (λ (y : Transaction) (z : ℕ). record { card = with_transaction (grown r) y; code = 0; kind = z; bytes = x.bytes }) et (en ∙ ap kind_number ej)
+    ap₂ (λ (y : Transaction) (z : ℕ). record { card = with_transaction (grown r) y; code = 0; kind = z; bytes = g }) et (en ∙ ap kind_number ej)
     ∙ ap (λ (y : List ℕ). record { card = with_transaction (grown r) (just_opened r.mark y); code = 0; kind = kind_number (kind_for r.mark); bytes = y }) w
 
 -- the refusals of an unsound record, and of a sound one
@@ -143,9 +147,9 @@ module _ (r : Card) (a : Reply) (s : Bool) (e : s ≡ sound r) where
     fine : sound r ≡ true
     fine = sym e ∙ not-false s h
 
-    pub withdraw_done : (t : Transaction) → t ≡ none → a ≡ plain (with_transaction r t) 0 → a ≡ step r Withdraw
+    pub withdraw_done : (d : Card) → d ≡ with_transaction r none → a ≡ plain d 0 → a ≡ step r Withdraw
     unfolding judged_under due_under after_under
-    withdraw_done t n z = z ∙ rw (fine, n)
+    withdraw_done d n z = z ∙ rw (fine, n)
 
     module _ (o : Bool) (eo : o ≡ is_open r.transaction.phase) where
       pub open_busy : (d : List ℕ) → o ≡ true → a ≡ plain r 6 → a ≡ step r (Open d)
@@ -227,14 +231,14 @@ module _ (r : Card) (a : Reply) (s : Bool) (e : s ≡ sound r) where
             unfolding judged_under due_under after_under
             check_on f z = z ∙ by_check d (first_struck (drop 4 (pin_checks r [] (decipher_pin (smc_key r) d)))) (rw (ajar, eq-eqb _ _ l, ne_eqb _ _ n, ne_eqb _ _ f))
 
-        pub close_spoilt : (t : Transaction) → r.transaction.spoilt ≡ true → t ≡ none → a ≡ plain (with_transaction r t) 10 → a ≡ step r Close
+        pub close_spoilt : (d : Card) → r.transaction.spoilt ≡ true → d ≡ with_transaction r none → a ≡ plain d 10 → a ≡ step r Close
         unfolding judged_under due_under after_under
-        close_spoilt t p n z = z ∙ rw (fine, ajar, p, n)
+        close_spoilt d p n z = z ∙ rw (fine, ajar, p, n)
 
-        pub close_done : (t : Transaction) (d : Card) → r.transaction.spoilt ≡ false → d ≡ settled_record r r.transaction → t ≡ none
-            → a ≡ plain (with_transaction d t) 0 → a ≡ step r Close
+        pub close_done : (l d : Card) → r.transaction.spoilt ≡ false → l ≡ settled_record r r.transaction → d ≡ with_transaction l none
+            → a ≡ plain d 0 → a ≡ step r Close
         unfolding judged_under due_under after_under
-        close_done t d p l n z = z ∙ ap₂ (λ (x : Card) (y : Transaction). plain (with_transaction x y) 0) l n ∙ rw (fine, ajar, p)
+        close_done l d p e n z = z ∙ ap (λ (x : Card). plain x 0) (n ∙ ap (λ (x : Card). with_transaction x none) e) ∙ rw (fine, ajar, p)
 
     module _ (x u : List ℕ) (o : Bool) (eo : o ≡ is_arqc r.transaction.phase) where
       pub answer_phase : not o ≡ true → a ≡ plain r 6 → a ≡ step r (IssuerAnswer x u)
@@ -269,29 +273,22 @@ unfolding judged_under due_under after_under
 counters_done r s o g e h eo b z = rw (sym e ∙ not-false s h, sym eo ∙ not-false o b, z)
 
 -- a PIN check: 9, 14, or accepted
-module _ (r : Card) (d k : List ℕ) (x : PinRead) (a : Reply) (ek : k ≡ smc_key r) (ex : x ≡ decipher_pin k d) where
-  abbrev Compared : PinRead → Type 0
+module _ (r : Card) (d k : List ℕ) (x : Result Pin Refusal) (a : Reply) (ek : k ≡ smc_key r) (ex : x ≡ decipher_pin k d) where
+  abbrev Compared : Result Pin Refusal → Type 0
   Compared y = a ≡ compared_as r y
 
-  as_read : Compared x → Compared (decipher_pin (smc_key r) d)
-  as_read z = subst Compared (ex ∙ ap (λ (y : List ℕ). decipher_pin y d) ek) z
+  as_read : (y : Result Pin Refusal) → x ≡ y → Compared y → Compared (decipher_pin (smc_key r) d)
+  as_read y e z = subst Compared (sym e ∙ ex ∙ ap (λ (v : List ℕ). decipher_pin v d) ek) z
 
-  pub misread : (x.code ≡ 0 → ⊥) → a ≡ plain (with_counters r r.atc (one_misread r.counters)) 9 → Compared (decipher_pin (smc_key r) d)
-  misread n z = as_read (z ∙ rw (ne_eqb _ _ n))
+  pub misread : (q : Refusal) → x ≡ Err q → a ≡ plain (with_counters r r.atc (one_misread r.counters)) 9 → Compared (decipher_pin (smc_key r) d)
+  misread q n z = as_read (Err q) n z
 
-  module _ (n : x.code ≡ 0) (v : Bool) (ev : v ≡ is_kept r x) where
+  module _ (p : Pin) (n : x ≡ Ok p) (v : Bool) (ev : v ≡ is_kept r (Ok p)) where
     pub mistaken : not v ≡ true → a ≡ plain (with_tries r (r.tries - 1)) 14 → Compared (decipher_pin (smc_key r) d)
-    mistaken w z = as_read (z ∙ rw (eq-eqb _ _ n, sym ev ∙ not-true v w))
+    mistaken w z = as_read (Ok p) n (z ∙ rw (sym ev ∙ not-true v w))
 
     pub recognised : not v ≡ false → a ≡ plain (with_tries r full_tries) 0 → Compared (decipher_pin (smc_key r) d)
-    recognised w z = as_read (z ∙ rw (eq-eqb _ _ n, sym ev ∙ not-false v w))
-
--- the kept PIN by count and digits
-pub other_count : (r : Card) (x : PinRead) → (x.count ≡ r.count → ⊥) → false ≡ is_kept r x
-other_count r x n = simp (ne_eqb _ _ n)
-
-pub same_count : (r : Card) (x : PinRead) (b : Bool) → x.count ≡ r.count → b ≡ same x.pin r.pin → b ≡ is_kept r x
-same_count r x b e z = z ∙ rw (eq-eqb _ _ e)
+    recognised w z = as_read (Ok p) n (z ∙ rw (sym ev ∙ not-false v w))
 
 -- a script: what an accepted command makes pending, or 9
 pub mark_taken : (r : Card) (b : Bool) (m : PendingMark) (a : Reply) → m ≡ mark_for b
@@ -299,22 +296,22 @@ pub mark_taken : (r : Card) (b : Bool) (m : PendingMark) (a : Reply) → m ≡ m
     → a ≡ plain (with_transaction r (pend (new_mark b) r.transaction)) 0
 mark_taken r b m a e z = z ∙ rw e
 
-module _ (r : Card) (d k : List ℕ) (x : PinRead) (a : Reply) (ek : k ≡ smc_key r) (ex : x ≡ decipher_pin k d) where
-  its : x ≡ decipher_pin (smc_key r) d
-  its = ex ∙ ap (λ (y : List ℕ). decipher_pin y d) ek
+module _ (r : Card) (d k : List ℕ) (x : Result Pin Refusal) (a : Reply) (ek : k ≡ smc_key r) (ex : x ≡ decipher_pin k d) where
+  abbrev Taken : Result Pin Refusal → Type 0
+  Taken y = a ≡ taken_as r (Ok SetPin) y
 
-  abbrev Taken : PinRead → Type 0
-  Taken y = a ≡ taken_as r (One SetPin) y
+  its : (y : Result Pin Refusal) → x ≡ y → Taken y → Taken (decipher_pin (smc_key r) d)
+  its y e z = subst Taken (sym e ∙ ex ∙ ap (λ (v : List ℕ). decipher_pin v d) ek) z
 
-  pub pin_no : (x.code ≡ 0 → ⊥) → a ≡ plain (with_transaction r (spoilt r.transaction)) 9 → Taken (decipher_pin (smc_key r) d)
-  pin_no n z = subst Taken its (z ∙ rw (ne_eqb _ _ n))
+  pub pin_no : (q : Refusal) → x ≡ Err q → a ≡ plain (with_transaction r (spoilt r.transaction)) 9 → Taken (decipher_pin (smc_key r) d)
+  pin_no q n z = its (Err q) n z
 
-  pub pin_yes : x.code ≡ 0 → a ≡ plain (with_transaction r (pend (new_pin x.pin x.count) r.transaction)) 0 → Taken (decipher_pin (smc_key r) d)
-  pin_yes n z = subst Taken its (z ∙ rw (eq-eqb _ _ n))
+  pub pin_yes : (p : Pin) → x ≡ Ok p → a ≡ plain (with_transaction r (pend (new_pin p.digits p.count) r.transaction)) 0 → Taken (decipher_pin (smc_key r) d)
+  pin_yes p n z = its (Ok p) n z
 
-module _ (r : Card) (c : Command) (x : PinRead) (a : Reply) where
+module _ (r : Card) (c : Command) (x : Result Pin Refusal) (a : Reply) where
   abbrev Took : Command → Type 0
-  Took k = a ≡ taken_as r (One k) x
+  Took k = a ≡ taken_as r (Ok k) x
 
   pub taken_pin : c ≡ SetPin → Took SetPin → Took c
   taken_pin e z = subst Took (sym e) z
@@ -328,7 +325,7 @@ module _ (r : Card) (c : Command) (x : PinRead) (a : Reply) where
 -- the checks of a listed command
 module _ (r : Card) (c : Command) (h m : List ℕ) (a : Reply) where
   abbrev Obeyed : Type 0
-  Obeyed = a ≡ obeyed_as r (One c) (code_fits (smi_key r) h m) (decipher_pin (smc_key r) (data_of m))
+  Obeyed = a ≡ obeyed_as r (Ok c) (code_fits (smi_key r) h m) (decipher_pin (smc_key r) (data_of m))
 
   pub obey_full : r.counters.failures ≡ 65535 → a ≡ plain (with_transaction r (spoilt r.transaction)) 7 → Obeyed
   obey_full f z = z ∙ rw (eq-eqb _ _ f)
@@ -346,10 +343,10 @@ module _ (r : Card) (c : Command) (h m : List ℕ) (a : Reply) where
 
     pub obey_taken : not v ≡ false → (d : List ℕ) → d ≡ data_of m → (s : Card)
         → s ≡ with_counters r r.atc (record { session = r.counters.session; failures = r.counters.failures + 1 - 1; decipherments = r.counters.decipherments; authentications = r.counters.authentications })
-        → a ≡ taken_as s (One c) (decipher_pin (smc_key s) d) → Obeyed
+        → a ≡ taken_as s (Ok c) (decipher_pin (smc_key s) d) → Obeyed
     obey_taken w d ed s es z =
         let e : s ≡ r = es ∙ rw (uncounted r.counters.failures) in
-        z ∙ ap₂ (λ (x : Card) (y : List ℕ). taken_as x (One c) (decipher_pin (smc_key x) y)) e ed
+        z ∙ ap₂ (λ (x : Card) (y : List ℕ). taken_as x (Ok c) (decipher_pin (smc_key x) y)) e ed
         ∙ rw (ne_eqb _ _ f, sym fits ∙ not-false v w)
 
 -- the checks in an open transaction
@@ -360,42 +357,44 @@ module _ (r : Card) (h m : List ℕ) (a : Reply) where
   pub judge_header : (length h ≡ 4 → ⊥) → a ≡ plain (with_transaction r (spoilt r.transaction)) 1 → Judged
   judge_header l z = z ∙ rw (ne_eqb _ _ l)
 
-  module _ (l : length h ≡ 4) (o : Opened) (eo : Tells o (shaped m) (cond (shape m) 0 4) m) where
-    pub judge_shape : (n : ℕ) → o ≡ Refused n → a ≡ plain (with_transaction r (spoilt r.transaction)) 4 → Judged
-    judge_shape n f z = z ∙ rw (eq-eqb _ _ l, told_refused m o n eo f)
+  module _ (l : length h ≡ 4) (o : Result Found Refusal) (eo : Tells o (shaped m) (cond (shape m) 0 4) m) where
+    pub judge_shape : (q : Refusal) → o ≡ Err q → a ≡ plain (with_transaction r (spoilt r.transaction)) 4 → Judged
+    judge_shape q f z = z ∙ rw (eq-eqb _ _ l, told_refused m o q eo f)
 
-    module _ (t p n : ℕ) (f : o ≡ Data t p n) (q : Listed) (eq : Lists q h t n) where
-      told : Told m t p n
-      told = told_data m o t p n eo f
+    module _ (d : Found) (f : o ≡ Ok d) (q : Result Command Refusal) (eq : Lists q h d.tag d.length) where
+      told : Told m d.tag d.place d.length
+      told = told_data m o d eo f
 
       its_command : q ≡ command_of h (tag_of m) (length_of m)
       its_command = eq.is ∙ ap₂ (λ (x y : ℕ). command_of h x y) told.the_tag told.the_length
 
-      pub judge_unlisted : (w : Refusal) (k : ℕ) → q ≡ Unlisted w → k ≡ number w → a ≡ plain (with_transaction r (spoilt r.transaction)) k → Judged
-      judge_unlisted w k g ek z =
+      pub judge_unlisted : (w : Refusal) → q ≡ Err w → a ≡ plain (with_transaction r (spoilt r.transaction)) (number w) → Judged
+      judge_unlisted w g z =
           let e : w ≡ NotListed = why_unlisted_lem h (tag_of m) (length_of m) w (sym its_command ∙ g) in
-          z ∙ ap (plain (with_transaction r (spoilt r.transaction))) (ek ∙ ap number e) ∙ rw (eq-eqb _ _ l, told.good, sym its_command ∙ g ∙ ap Unlisted e)
+          let f : q ≡ Err NotListed = g ∙ ap Err e in
+          z ∙ ap (λ (x : Refusal). plain (with_transaction r (spoilt r.transaction)) (number x)) e ∙ rw (eq-eqb _ _ l, told.good, sym its_command ∙ f)
 
-      pub judge_listed : (c : Command) → q ≡ One c → Obeyed r c h m a → Judged
+      pub judge_listed : (c : Command) → q ≡ Ok c → Obeyed r c h m a → Judged
       judge_listed c g z = z ∙ rw (eq-eqb _ _ l, told.good, sym its_command ∙ g)
 
 -- the data of a message of good shape
-pub judge_end : (m : List ℕ) (o : Opened) (t p n : ℕ) → Tells o (shaped m) (cond (shape m) 0 4) m → o ≡ Data t p n → p + n ≤ length m
-judge_end m o t p n e f = let w = told_data m o t p n e f in let s = w.the_size in omega arith
+pub judge_end : (m : List ℕ) (o : Result Found Refusal) (d : Found) → Tells o (shaped m) (cond (shape m) 0 4) m → o ≡ Ok d → d.place + d.length ≤ length m
+judge_end m o d e f = let w = told_data m o d e f in let s = w.the_size in omega arith
 
-pub judge_data : (m : List ℕ) (o : Opened) (t p n : ℕ) → Tells o (shaped m) (cond (shape m) 0 4) m → o ≡ Data t p n → take ((p + n) - p) (drop p m) ≡ data_of m
+pub judge_data : (m : List ℕ) (o : Result Found Refusal) (d : Found) → Tells o (shaped m) (cond (shape m) 0 4) m → o ≡ Ok d
+    → take ((d.place + d.length) - d.place) (drop d.place m) ≡ data_of m
 unfolding data_of_under
-judge_data m o t p n e f =
-    let w = told_data m o t p n e f in
-    ap₂ {C = List ℕ} (λ x y. take x (drop y m)) (add-sub_cancel_left p n ∙ w.the_length) w.the_place
+judge_data m o d e f =
+    let w = told_data m o d e f in
+    ap₂ {C = List ℕ} (λ x y. take x (drop y m)) (add-sub_cancel_left d.place d.length ∙ w.the_length) w.the_place
 
 -- personalisation
 pub blank_by : (t : Transaction) → t ≡ none → with_transaction blank t ≡ blank
 blank_by t e = ap (with_transaction blank) e
 
 module _ (ac smi smc : List ℕ) (atc : ℕ) (counters : List ℕ) (mark : ℕ) (block : List ℕ) (tries : ℕ) (a : Reply) where
-  abbrev with : PinRead → CounterStruct → Transaction → Card
-  with y n t = record { ac = ac; smi = smi; smc = smc; pin = y.pin; count = y.count; mark = eqb mark 1; tries = tries; atc = atc; counters = n; transaction = t }
+  abbrev with : Pin → CounterStruct → Transaction → Card
+  with y n t = record { ac = ac; smi = smi; smc = smc; pin = y.digits; count = y.count; mark = eqb mark 1; tries = tries; atc = atc; counters = n; transaction = t }
 
   pub fresh_mark : (b : Card) → 1 < mark → b ≡ blank → a ≡ plain b 1 → a ≡ personalised ac smi smc atc counters mark block tries
   unfolding personalised
@@ -405,16 +404,15 @@ module _ (ac smi smc : List ℕ) (atc : ℕ) (counters : List ℕ) (mark : ℕ) 
   unfolding personalised
   fresh_tries b h n e z = z ∙ ap (λ (x : Card). plain x 1) e ∙ rw (le-leb mark 1 h, lt-leb tries full_tries n)
 
-  module _ (h : mark ≤ 1) (k : tries ≤ full_tries) (x : PinRead) (ex : x ≡ read_block block) where
-    pub fresh_format : (b : Card) → (x.code ≡ 0 → ⊥) → b ≡ blank → a ≡ plain b 9 → a ≡ personalised ac smi smc atc counters mark block tries
+  module _ (h : mark ≤ 1) (k : tries ≤ full_tries) (x : Result Pin Refusal) (ex : x ≡ read_block block) where
+    pub fresh_format : (b : Card) (q : Refusal) → x ≡ Err q → b ≡ blank → a ≡ plain b 9 → a ≡ personalised ac smi smc atc counters mark block tries
     unfolding personalised
-    fresh_format b n e z = z ∙ ap (λ (y : Card). plain y 9) e ∙ rw (le-leb mark 1 h, le-leb tries full_tries k, ap (λ (y : PinRead). eqb y.code 0) (sym ex) ∙ ne_eqb _ _ n)
+    fresh_format b q n e z = z ∙ ap (λ (y : Card). plain y 9) e ∙ rw (le-leb mark 1 h, le-leb tries full_tries k, sym ex ∙ n)
 
-    pub fresh_done : (n : CounterStruct) (t : Transaction) → x.code ≡ 0 → n ≡ counters_of counters → t ≡ none
-        → a ≡ plain (with x n t) 0 → a ≡ personalised ac smi smc atc counters mark block tries
+    pub fresh_done : (p : Pin) (n : CounterStruct) (t : Transaction) → x ≡ Ok p → n ≡ counters_of counters → t ≡ none
+        → a ≡ plain (with p n t) 0 → a ≡ personalised ac smi smc atc counters mark block tries
     unfolding personalised
-    fresh_done n t c en et z =
+    fresh_done p n t o en et z =
         z
-        ∙ ap₂ (λ (u : CounterStruct) (v : Transaction). plain (with x u v) 0) en et
-        ∙ ap (λ (y : PinRead). plain (with y (counters_of counters) none) 0) ex
-        ∙ rw (le-leb mark 1 h, le-leb tries full_tries k, ap (λ (y : PinRead). eqb y.code 0) (sym ex) ∙ eq-eqb _ _ c)
+        ∙ ap₂ (λ (u : CounterStruct) (v : Transaction). plain (with p u v) 0) en et
+        ∙ rw (le-leb mark 1 h, le-leb tries full_tries k, sym ex ∙ o)

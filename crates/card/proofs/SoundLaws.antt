@@ -1,8 +1,8 @@
 -- Soundness, test by test. Assumes nothing.
-use Prim.Native.Nat.{◌≤◌, ◌<◌}
+use Prim.Native.Nat.{◌≤◌}
 use mathlib.Core.Path.{◌≡◌, sym, ◌∙◌}
 use mathlib.Core.Bool.{Bool, true, false, not, and-false}
-use borrow.Author.Tests.{le-leb, lt-leb, not-true, not-false}
+use borrow.Author.Tests.{le-leb, not-true, not-false}
 use Rattle.pin.specs.PinBlock.{pin_fits}
 use Rattle.transaction.specs.Transaction.{pending_fits, rest_fits}
 use Rattle.card.specs.declared.Card.{Card}
@@ -12,10 +12,6 @@ module _ (r : Card) (p : Bool) (e : p ≡ pin_fits 0 r.count r.pin) where
   pub sound_pin : not p ≡ true → false ≡ sound r
   unfolding sound
   sound_pin h = simp (sym e ∙ not-true p h)
-
-  pub sound_tries : full_tries < r.tries → false ≡ sound r
-  unfolding sound
-  sound_tries h = simp (lt-leb r.tries full_tries h, and-false)
 
   module _ (h : not p ≡ false) (n : r.tries ≤ full_tries) (q : Bool) (f : q ≡ pending_fits r.transaction.count r.transaction.pin) where
     pub sound_pending : not q ≡ true → false ≡ sound r

@@ -1,19 +1,19 @@
 -- The calls (01, The soft card and Numbered refusals): with which number a call is refused, what it gives, and the record after it.
 -- Assumes nothing.
-use Rattle.std.specs.Prelude.{ℕ, ◌+◌, ◌-◌, Bool, true, false, not, ◌&&◌, ◌||◌, cond, List, [], ◌∷◌, eqb, length, replicate}
+use Rattle.std.specs.Prelude.{ℕ, ◌+◌, ◌-◌, Bool, true, false, not, ◌&&◌, ◌||◌, cond, List, [], ◌∷◌, eqb, length, replicate, Result, Ok, Err, is_err}
+use Rattle.std.specs.Result.{result_unwrap_or}
 use Rattle.answers.specs.declared.Refusal.{Refusal}
 use Rattle.answers.specs.declared.Refusal.TheVariants.{Input, ShapeWrong, NotListed, PhaseWrong, CounterFull, CodeDiffers, PinFormat, SpoiltClosed, ArpcDiffers, WrongPin, NoTries}
 use Rattle.answers.specs.Refusals.{number}
 use Rattle.octets.specs.Same.{same}
 use Rattle.gost.specs.Gost.{subkeys, encipher}
-use Rattle.pin.specs.declared.PinRead.{PinRead}
+use Rattle.pin.specs.declared.Pin.{Pin}
 use Rattle.pin.specs.CounterBlock.{counter_block}
 use Rattle.pin.specs.Answers.{decipher_pin}
 use Rattle.cryptogram.specs.Cryptogram.{cryptogram_of, arpc_of}
 use Rattle.cryptogram.specs.Answers.{kind_number}
+use Rattle.shapes.specs.declared.command.Command.{Command}
 use Rattle.shapes.specs.declared.command.Command.TheVariants.{SetPin, SetMark, ClearMark}
-use Rattle.shapes.specs.declared.command.Listed.{Listed}
-use Rattle.shapes.specs.declared.command.Listed.TheVariants.{One, Unlisted}
 use Rattle.shapes.specs.Rules.{Rules, present}
 use Rattle.shapes.specs.Shape.{tag_of, length_of_under, data_of_under, shape_under}
 use Rattle.shapes.specs.Command.{first_of}
@@ -48,9 +48,9 @@ first_struck (strikes b q ∷ cs) = cond b (refuse q) (first_struck cs)
 -- under the SMC key
 pub record Message : Type 0 where
   pub shaped : Bool
-  pub command : Listed
+  pub command : Result Command Refusal
   pub coded : Bool
-  pub block : PinRead
+  pub block : Result Pin Refusal
 
 abbrev pub read_under : Rules → Card → List ℕ → List ℕ → Message
 read_under k r h m =
@@ -64,20 +64,19 @@ read_under k r h m =
 abbrev pub read : Card → List ℕ → List ℕ → Message
 read = read_under present
 
-abbrev pub unlisted : Listed → Bool
-unlisted (Unlisted q) = true
-unlisted (One c) = false
+abbrev pub unlisted : Result Command Refusal → Bool
+unlisted = is_err
 
-abbrev pub why_unlisted : Listed → Refusal
-why_unlisted (Unlisted q) = q
-why_unlisted (One c) = NotListed
+abbrev pub why_unlisted : Result Command Refusal → Refusal
+why_unlisted (Err q) = q
+why_unlisted (Ok c) = NotListed
 
 -- a new PIN whose block does not read
-abbrev pub unread : Listed → PinRead → Bool
-unread (Unlisted q) x = false
-unread (One SetPin) x = not (eqb x.code 0)
-unread (One SetMark) x = false
-unread (One ClearMark) x = false
+abbrev pub unread : Result Command Refusal → Result Pin Refusal → Bool
+unread (Err q) x = false
+unread (Ok SetPin) x = is_err x
+unread (Ok SetMark) x = false
+unread (Ok ClearMark) x = false
 
 -- "Script 6, 1 (header), 4, 5, 7, 8, 9."
 abbrev pub script_checks : Card → List ℕ → Message → List Check
@@ -95,17 +94,18 @@ unfoldable pub judged_script : Card → List ℕ → Message → Verdict
 judged_script r h x = first_struck (script_checks r h x)
 
 -- "compared with the kept PIN": its count and its digits
-abbrev pub is_kept : Card → PinRead → Bool
-is_kept r x = eqb x.count r.count && same x.pin r.pin
+abbrev pub is_kept : Card → Result Pin Refusal → Bool
+is_kept r (Ok p) = eqb p.count r.count && same p.digits r.pin
+is_kept r (Err q) = false
 
 -- "order 6, 1, 15, 7 when that counter is 65535, 9, 14" (Wish 4): of a block, and of what it reads as
-abbrev pub pin_checks : Card → List ℕ → PinRead → List Check
+abbrev pub pin_checks : Card → List ℕ → Result Pin Refusal → List Check
 pin_checks r b x =
     strikes (not (is_open r.transaction.phase)) PhaseWrong
     ∷ strikes (not (eqb (length b) 8)) Input
     ∷ strikes (eqb r.tries 0) NoTries
     ∷ strikes (eqb r.counters.decipherments 65535) CounterFull
-    ∷ strikes (not (eqb x.code 0)) PinFormat
+    ∷ strikes (is_err x) PinFormat
     ∷ strikes (not (is_kept r x)) WrongPin
     ∷ []
 
@@ -173,11 +173,15 @@ pub data Order : Type 0 where
   new_pin : List ℕ → ℕ → Order
   new_mark : Bool → Order
 
-abbrev pub orders : Listed → PinRead → List Order
-orders (Unlisted q) x = []
-orders (One SetPin) x = new_pin x.pin x.count ∷ []
-orders (One SetMark) x = new_mark true ∷ []
-orders (One ClearMark) x = new_mark false ∷ []
+-- the PIN of a block; none where it does not read
+abbrev pub pin_or_none : Result Pin Refusal → Pin
+pin_or_none x = result_unwrap_or x (record { digits = replicate 12 0; count = 0 })
+
+abbrev pub orders : Result Command Refusal → Result Pin Refusal → List Order
+orders (Err q) x = []
+orders (Ok SetPin) x = new_pin (pin_or_none x).digits (pin_or_none x).count ∷ []
+orders (Ok SetMark) x = new_mark true ∷ []
+orders (Ok ClearMark) x = new_mark false ∷ []
 
 abbrev pub pend : Order → Transaction → Transaction
 pend (new_pin p n) t = with_pending t p n t.mark

@@ -1,8 +1,9 @@
 -- Helpers of private contracts only: a script, and a PIN check, in an open transaction. Assumes nothing.
-use Rattle.std.specs.Prelude.{ℕ, Bool, true, List, [], drop}
+use Rattle.std.specs.Prelude.{ℕ, Bool, true, List, [], drop, Result}
+use Rattle.answers.specs.declared.Refusal.{Refusal}
 use Rattle.answers.specs.Refusals.{number}
-use Rattle.pin.specs.declared.PinRead.{PinRead}
-use Rattle.shapes.specs.declared.command.Listed.{Listed}
+use Rattle.pin.specs.declared.Pin.{Pin}
+use Rattle.shapes.specs.declared.command.Command.{Command}
 use Rattle.card.specs.declared.Card.{Card}
 use Rattle.card.specs.declared.Reply.{Reply}
 use Rattle.card.specs.Record.{full_tries, with_tries}
@@ -17,13 +18,13 @@ script_as r x accept = plain (accepted_script r x) 0
 abbrev pub judged_as : Card → List ℕ → Message → Reply
 judged_as r h x = script_as r x (first_struck (drop 1 (script_checks r h x)))
 
-abbrev pub message_with : Listed → Bool → PinRead → Message
+abbrev pub message_with : Result Command Refusal → Bool → Result Pin Refusal → Message
 message_with l b x = record { shaped = true; command = l; coded = b; block = x }
 
-abbrev pub obeyed_as : Card → Listed → Bool → PinRead → Reply
+abbrev pub obeyed_as : Card → Result Command Refusal → Bool → Result Pin Refusal → Reply
 obeyed_as r l b x = script_as r (message_with l b x) (first_struck (drop 4 (script_checks r [] (message_with l b x))))
 
-abbrev pub taken_as : Card → Listed → PinRead → Reply
+abbrev pub taken_as : Card → Result Command Refusal → Result Pin Refusal → Reply
 taken_as r l x = script_as r (message_with l true x) (first_struck (drop 6 (script_checks r [] (message_with l true x))))
 
 -- a PIN check by the verdict, and what is left of its checks after those that need no block
@@ -31,5 +32,5 @@ abbrev pub check_as : Card → Verdict → Reply
 check_as r (refuse q) = plain (refused_check r q) (number q)
 check_as r accept = plain (with_tries r full_tries) 0
 
-abbrev pub compared_as : Card → PinRead → Reply
+abbrev pub compared_as : Card → Result Pin Refusal → Reply
 compared_as r x = check_as r (first_struck (drop 4 (pin_checks r [] x)))

@@ -1,14 +1,14 @@
 // The soft card: its record, and the calls, each of which takes the record and hands back the record after it.
 #![tactic(auto)]
 
-ghost use Rattle.std.specs.Prelude.{◌≡◌, ◌<◌, length};
+ghost use Rattle.std.specs.Prelude.{◌≡◌, ◌<◌, length, Ok};
+ghost use Rattle.answers.specs.Refusals.{number};
 ghost use Rattle.derive.specs.Derivation.{derived, card_label};
 ghost use Rattle.pin.specs.Answers.{decipher_pin};
 ghost use Rattle.shapes.specs.Shape.{data_of};
 ghost use Rattle.message.specs.Code.{code_fits};
 ghost use Rattle.shapes.specs.declared.command.Command.TheVariants.{SetPin};
-ghost use Rattle.shapes.specs.declared.command.Listed.TheVariants.{One};
-ghost use Rattle.transaction.specs.Transaction.{spoilt as spoiltOf};
+ghost use Rattle.transaction.specs.Transaction.{none, spoilt as spoiltOf};
 ghost use Rattle.card.specs.Record.{sound, with_transaction};
 ghost use Rattle.card.specs.Keys.{session_key_of, smi_key, smc_key};
 ghost use Rattle.card.specs.Calls.{plain, arpc_for, counters_for, new_mark, pend, settled_record, is_kept, accepted, gives, reply, read, step, Open, IssuerAnswer, Script, Close, Withdraw, Counters as CountersCall, CheckPin};
@@ -18,8 +18,8 @@ ghost use Rattle.card.specs.Personalise.{blank as blankAs, personalised};
 
 use answers::Refusal;
 use derive::KEPT_WORDS;
-use message::{Command, Listed, Opened};
-use pin::{Counters, PinRead};
+use message::Command;
+use pin::{Counters, Pin};
 pub use transaction::{PendingMark, Phase, Transaction};
 
 // The tries that a PIN has.
@@ -55,41 +55,46 @@ pub struct Reply {
 }
 
 // Whether a record is sound.
+#[tactic(auto, unfolding(crate::specs::Record::sound))]
 fn is_sound(c: Card) -> bool
     ensures { result ≡ sound c }
 {
-    let p = c.pin;
-    if !pin::pin_fits(&p, c.count as usize, 0) {
-        return false;
-    }
-    if c.tries > FULL_TRIES {
-        return false;
-    }
-    let q = c.transaction.pin;
-    if !transaction::pending_fits(q, c.transaction.count) {
-        return false;
-    }
-    transaction::rest_fits(c.transaction)
+    pin::pin_fits(&c.pin, c.count as usize, 0)
+        && c.tries <= FULL_TRIES
+        && transaction::pending_fits(c.transaction.pin, c.transaction.count)
+        && transaction::rest_fits(c.transaction)
 }
 
-// A refusal, or an acceptance without bytes.
-fn plainly(card: Card, code: u8) -> Reply
-    ensures { result ≡ plain card code }
+// A refusal.
+fn refused(card: Card, why: Refusal) -> Reply
+    ensures { result ≡ plain card (number why) }
 {
     Reply {
         card,
-        code,
+        code: why.number(),
+        kind: 0,
+        bytes: [0; 8],
+    }
+}
+
+// An acceptance without bytes.
+fn accepted(card: Card) -> Reply
+    ensures { result ≡ plain card 0 }
+{
+    Reply {
+        card,
+        code: 0,
         kind: 0,
         bytes: [0; 8],
     }
 }
 
 // A refusal of a script, which spoils the transaction.
-fn spoiled(mut c: Card, code: u8) -> Reply
-    ensures { result ≡ plain (with_transaction c (spoiltOf c.transaction)) code }
+fn spoiled(mut c: Card, why: Refusal) -> Reply
+    ensures { result ≡ plain (with_transaction c (spoiltOf c.transaction)) (number why) }
 {
     c.transaction.spoilt = true;
-    plainly(c, code)
+    refused(c, why)
 }
 
 // The session key for cryptograms, by the words of its master key where they are lent.
@@ -97,12 +102,9 @@ fn session_key(c: Card, ac: &[u64]) -> [u8; 32]
     ensures { Fits ac.now c.ac → result ≡ session_key_of c }
 {
     if ac.len() == KEPT_WORDS {
-        let k = keys::session_key_kept(ac, c.atc);
-        return k.bytes;
+        return keys::session_key_kept(ac, c.atc).unwrap();
     }
-    let master = c.ac;
-    let r = keys::session_key(&master, c.atc);
-    r.bytes
+    keys::session_key(&c.ac, c.atc).unwrap()
 }
 
 // The key of a script, for its code or for secrecy, by its master key, or by the words of that key.
@@ -110,11 +112,9 @@ fn script_key(master: [u8; 32], words: &[u64], cryptogram: [u8; 8]) -> [u8; 32]
     ensures { Fits words.now master → result ≡ derived master card_label cryptogram }
 {
     if words.len() == KEPT_WORDS {
-        let k = keys::script_key_kept(words, &cryptogram);
-        return k.bytes;
+        return keys::script_key_kept(words, &cryptogram).unwrap();
     }
-    let r = keys::script_key(&master, &cryptogram);
-    r.bytes
+    keys::script_key(&master, &cryptogram).unwrap()
 }
 
 // The ARPC that the card expects, under its session key.
@@ -122,9 +122,7 @@ fn arpc_for(c: Card, key: [u8; 32], csu: &[u8]) -> [u8; 8]
     requires { length csu.now ≡ 4 }
     ensures { key ≡ session_key_of c → result ≡ arpc_for c csu.now }
 {
-    let g = c.transaction.cryptogram;
-    let r = cryptogram::arpc(&key, &g, csu);
-    r.bytes
+    cryptogram::arpc(&key, &c.transaction.cryptogram, csu).unwrap()
 }
 
 // The enciphered counter block.
@@ -132,26 +130,29 @@ fn counters_for(c: Card, ac: &[u64]) -> [u8; 8]
     ensures { Fits ac.now c.ac → result ≡ counters_for c }
 {
     let session = session_key(c, ac);
-    let k = keys::counter_key(&session);
-    let key = k.bytes;
-    let block = pin::write_counters(c.counters);
-    let r = cipher::encipher(&key, &block);
-    r.bytes
+    let key = keys::counter_key(&session).unwrap();
+    cipher::encipher_with(cipher::expand(key), pin::write_counters(c.counters))
 }
 
 // What is pending laid over what is kept: the mark, and the PIN with all its tries.
 fn lay(mut c: Card, t: Transaction) -> Card
     ensures { result ≡ settled_record c t }
 {
-    let mark = t.mark;
-    c.mark = transaction::mark_after(mark, c.mark);
-    if t.count == 0 {
-        return c;
+    c.mark = transaction::mark_after(t.mark, c.mark);
+    if t.count != 0 {
+        let pin = t.pin;
+        c.pin = pin;
+        c.count = t.count;
+        c.tries = FULL_TRIES;
     }
-    let p = t.pin;
-    c.pin = p;
-    c.count = t.count;
-    c.tries = FULL_TRIES;
+    c
+}
+
+// With no transaction open.
+fn dropped(mut c: Card) -> Card
+    ensures { result ≡ with_transaction c none }
+{
+    c.transaction = transaction::no_transaction();
     c
 }
 
@@ -161,12 +162,10 @@ fn opening(mut c: Card, ac: &[u64], input: &[u8]) -> Reply
     ensures { Fits ac.now c.ac → result ≡ reply (accepted c (Open input.now)) (gives c (Open input.now)) }
 {
     c.atc += 1;
-    let session = c.counters.session + 1;
-    c.counters.session = session;
+    c.counters.session += 1;
     let key = session_key(c, ac);
     let kind = transaction::kind_for(c.mark);
-    let g = cryptogram::cryptogram(&key, kind, c.atc, input);
-    let bytes = g.bytes;
+    let bytes = cryptogram::cryptogram(&key, kind, c.atc, input).unwrap();
     c.transaction = transaction::begun(c.mark, bytes);
     Reply {
         card: c,
@@ -180,44 +179,27 @@ fn opening(mut c: Card, ac: &[u64], input: &[u8]) -> Reply
 fn take_mark(mut c: Card, set: bool) -> Reply
     ensures { result ≡ plain (with_transaction c (pend (new_mark set) c.transaction)) 0 }
 {
-    let t = c.transaction;
-    let phase = t.phase;
-    let cryptogram = t.cryptogram;
-    let p = t.pin;
-    let u = Transaction {
-        phase,
-        cryptogram,
-        pin: p,
-        count: t.count,
-        mark: transaction::mark_for(set),
-        spoilt: t.spoilt,
-    };
-    c.transaction = u;
-    plainly(c, 0)
+    c.transaction.mark = transaction::mark_for(set);
+    accepted(c)
 }
 
 // The PIN of an enciphered block becomes the pending one; or 9.
 fn take_pin(mut c: Card, smc: &[u64], block: &[u8]) -> Reply
-    ensures { Fits smc.now c.smc → result ≡ taken_as c (One SetPin) (decipher_pin (smc_key c) block.now) }
+    ensures { Fits smc.now c.smc → result ≡ taken_as c (Ok SetPin) (decipher_pin (smc_key c) block.now) }
 {
-    let master = c.smc;
-    let g = c.transaction.cryptogram;
-    let key = script_key(master, smc, g);
-    let x = pin::decipher_pin(&key, block);
-    if x.code != 0 {
-        return spoiled(c, Refusal::PIN_FORMAT);
-    }
-    let mut t = c.transaction;
-    let p = x.pin;
-    t.pin = p;
-    t.count = x.count;
-    c.transaction = t;
-    plainly(c, 0)
+    let key = script_key(c.smc, smc, c.transaction.cryptogram);
+    let Ok(found) = pin::decipher_pin(&key, block) else {
+        return spoiled(c, Refusal::PinFormat);
+    };
+    let digits = found.digits;
+    c.transaction.pin = digits;
+    c.transaction.count = found.count;
+    accepted(c)
 }
 
 // What a command orders becomes pending; the block is the message's data.
 fn take(c: Card, smc: &[u64], command: Command, block: &[u8]) -> Reply
-    ensures { Fits smc.now c.smc → result ≡ taken_as c (One command) (decipher_pin (smc_key c) block.now) }
+    ensures { Fits smc.now c.smc → result ≡ taken_as c (Ok command) (decipher_pin (smc_key c) block.now) }
 {
     match command {
         Command::SetPin => take_pin(c, smc, block),
@@ -237,22 +219,17 @@ fn obey(
     block: &[u8],
 ) -> Reply
     requires { block.now ≡ data_of message.now }
-    ensures { Fits smi.now c.smi → Fits smc.now c.smc → result ≡ obeyed_as c (One command) (code_fits (smi_key c) header.now message.now) (decipher_pin (smc_key c) (data_of message.now)) }
+    ensures { Fits smi.now c.smi → Fits smc.now c.smc → result ≡ obeyed_as c (Ok command) (code_fits (smi_key c) header.now message.now) (decipher_pin (smc_key c) (data_of message.now)) }
 {
-    let mut n = c.counters;
-    if n.failures == 65535 {
-        return spoiled(c, Refusal::COUNTER_FULL);
+    if c.counters.failures == 65535 {
+        return spoiled(c, Refusal::CounterFull);
     }
-    let master = c.smi;
-    let g = c.transaction.cryptogram;
-    let key = script_key(master, smi, g);
-    n.failures += 1;
-    c.counters = n;
+    let key = script_key(c.smi, smi, c.transaction.cryptogram);
+    c.counters.failures += 1;
     if !message::code_fits(&key, header, message) {
-        return spoiled(c, Refusal::CODE_DIFFERS);
+        return spoiled(c, Refusal::CodeDiffers);
     }
-    n.failures -= 1;
-    c.counters = n;
+    c.counters.failures -= 1;
     take(c, smc, command, block)
 }
 
@@ -261,31 +238,33 @@ fn judge(c: Card, smi: &[u64], smc: &[u64], header: &[u8], message: &[u8]) -> Re
     ensures { Fits smi.now c.smi → Fits smc.now c.smc → result ≡ judged_as c header.now (read c header.now message.now) }
 {
     if header.len() != 4 {
-        return spoiled(c, Refusal::INPUT);
+        return spoiled(c, Refusal::Input);
     }
-    let Opened::Data { tag, place, length } = message::shape(message) else {
-        return spoiled(c, Refusal::SHAPE_WRONG);
+    let Ok(found) = message::shape(message) else {
+        return spoiled(c, Refusal::ShapeWrong);
     };
-    let listed = Command::listed(header, tag, length);
-    match listed {
-        Listed::One(command) => {
-            let end = place + length;
-            obey(c, smi, smc, command, header, message, &message[place..end])
+    let end = found.place + found.length;
+    match Command::listed(header, found.tag, found.length) {
+        Ok(command) => {
+            obey(
+                c,
+                smi,
+                smc,
+                command,
+                header,
+                message,
+                &message[found.place..end],
+            )
         }
-        Listed::Unlisted(why) => spoiled(c, why.number()),
+        Err(why) => spoiled(c, why),
     }
 }
 
 // Whether a block that was read holds the kept PIN.
-fn is_kept(c: Card, x: PinRead) -> bool
-    ensures { result ≡ is_kept c x }
+fn is_kept(c: Card, found: Pin) -> bool
+    ensures { result ≡ is_kept c (Ok found) }
 {
-    if x.count != c.count {
-        return false;
-    }
-    let p = x.pin;
-    let q = c.pin;
-    octets::same(&p, &q)
+    found.count == c.count && octets::same(&found.digits, &c.pin)
 }
 
 // The PIN of an enciphered block against the kept one, of a record with a try left and whose counter can grow: 9, 14.
@@ -293,21 +272,17 @@ fn compare(mut c: Card, smc: &[u64], block: &[u8]) -> Reply
     requires { (0 < c.tries) × (c.counters.decipherments < 65535) }
     ensures { Fits smc.now c.smc → result ≡ compared_as c (decipher_pin (smc_key c) block.now) }
 {
-    let master = c.smc;
-    let g = c.transaction.cryptogram;
-    let key = script_key(master, smc, g);
-    let x = pin::decipher_pin(&key, block);
-    if x.code != 0 {
-        let n = c.counters.decipherments + 1;
-        c.counters.decipherments = n;
-        return plainly(c, Refusal::PIN_FORMAT);
-    }
-    if !is_kept(c, x) {
+    let key = script_key(c.smc, smc, c.transaction.cryptogram);
+    let Ok(found) = pin::decipher_pin(&key, block) else {
+        c.counters.decipherments += 1;
+        return refused(c, Refusal::PinFormat);
+    };
+    if !is_kept(c, found) {
         c.tries -= 1;
-        return plainly(c, Refusal::WRONG_PIN);
+        return refused(c, Refusal::WrongPin);
     }
     c.tries = FULL_TRIES;
-    plainly(c, 0)
+    accepted(c)
 }
 
 // No record: every call refuses it.
@@ -348,59 +323,50 @@ impl Card {
     ) -> Reply
         ensures { result ≡ personalised ac smi smc atc counters mark block tries }
     {
-        if mark > 1 {
-            return plainly(blank(), Refusal::INPUT);
+        if mark > 1 || tries > FULL_TRIES {
+            return refused(blank(), Refusal::Input);
         }
-        if tries > FULL_TRIES {
-            return plainly(blank(), Refusal::INPUT);
-        }
-        let x = pin::read_block(block);
-        if x.code != 0 {
-            return plainly(blank(), Refusal::PIN_FORMAT);
-        }
-        let p = x.pin;
+        let Ok(found) = pin::read_block(block) else {
+            return refused(blank(), Refusal::PinFormat);
+        };
+        let digits = found.digits;
         let card = Card {
             ac,
             smi,
             smc,
-            pin: p,
-            count: x.count,
+            pin: digits,
+            count: found.count,
             mark: mark == 1,
             tries,
             atc,
             counters: pin::read_counters(counters),
             transaction: transaction::no_transaction(),
         };
-        plainly(card, 0)
+        accepted(card)
     }
 
     // Open, of the terminal's 65 bytes: 6, 1, 7.
-    pub fn open(mut self, input: &[u8]) -> Reply
+    pub fn open(self, input: &[u8]) -> Reply
         ensures { result ≡ step self (Open input.now) }
     {
         self.open_kept(&[], input)
     }
 
     // The same for whoever keeps the master key: its words are lent, or none.
-    pub fn open_kept(mut self, ac: &[u64], input: &[u8]) -> Reply
+    pub fn open_kept(self, ac: &[u64], input: &[u8]) -> Reply
         ensures { Fits ac.now self.ac → result ≡ step self (Open input.now) }
     {
         if !is_sound(self) {
-            return plainly(self, Refusal::INPUT);
+            return refused(self, Refusal::Input);
         }
-        let t = self.transaction;
-        let phase = t.phase;
-        if transaction::is_open(phase) {
-            return plainly(self, Refusal::PHASE_WRONG);
+        if transaction::is_open(self.transaction.phase) {
+            return refused(self, Refusal::PhaseWrong);
         }
         if input.len() != 65 {
-            return plainly(self, Refusal::INPUT);
+            return refused(self, Refusal::Input);
         }
-        if self.atc == 65535 {
-            return plainly(self, Refusal::COUNTER_FULL);
-        }
-        if self.counters.session == 65535 {
-            return plainly(self, Refusal::COUNTER_FULL);
+        if self.atc == 65535 || self.counters.session == 65535 {
+            return refused(self, Refusal::CounterFull);
         }
         opening(self, ac, input)
     }
@@ -416,67 +382,55 @@ impl Card {
         ensures { Fits ac.now self.ac → result ≡ step self (IssuerAnswer arpc.now csu.now) }
     {
         if !is_sound(self) {
-            return plainly(self, Refusal::INPUT);
+            return refused(self, Refusal::Input);
         }
-        let t = self.transaction;
-        let phase = t.phase;
-        if !transaction::is_arqc(phase) {
-            return plainly(self, Refusal::PHASE_WRONG);
+        if !transaction::is_arqc(self.transaction.phase) {
+            return refused(self, Refusal::PhaseWrong);
         }
-        if arpc.len() != 8 {
-            return plainly(self, Refusal::INPUT);
-        }
-        if csu.len() != 4 {
-            return plainly(self, Refusal::INPUT);
+        if arpc.len() != 8 || csu.len() != 4 {
+            return refused(self, Refusal::Input);
         }
         let own = arpc_for(self, session_key(self, ac), csu);
         if !octets::same(arpc, &own) {
-            return plainly(self, Refusal::ARPC_DIFFERS);
+            return refused(self, Refusal::ArpcDiffers);
         }
         self.counters.session = 0;
-        plainly(self, 0)
+        accepted(self)
     }
 
     // A script command, header and message: 6, 1, 4, 5, 7, 8, 9.
-    pub fn script(mut self, header: &[u8], message: &[u8]) -> Reply
+    pub fn script(self, header: &[u8], message: &[u8]) -> Reply
         ensures { result ≡ step self (Script header.now message.now) }
     {
         self.script_kept(&[], &[], header, message)
     }
 
-    pub fn script_kept(mut self, smi: &[u64], smc: &[u64], header: &[u8], message: &[u8]) -> Reply
+    pub fn script_kept(self, smi: &[u64], smc: &[u64], header: &[u8], message: &[u8]) -> Reply
         ensures { Fits smi.now self.smi → Fits smc.now self.smc → result ≡ step self (Script header.now message.now) }
     {
         if !is_sound(self) {
-            return plainly(self, Refusal::INPUT);
+            return refused(self, Refusal::Input);
         }
-        let t = self.transaction;
-        let phase = t.phase;
-        if !transaction::is_open(phase) {
-            return plainly(self, Refusal::PHASE_WRONG);
+        if !transaction::is_open(self.transaction.phase) {
+            return refused(self, Refusal::PhaseWrong);
         }
         judge(self, smi, smc, header, message)
     }
 
     // Close: 6, 1, 10. What is pending becomes what is kept, or is dropped.
-    pub fn close(mut self) -> Reply
+    pub fn close(self) -> Reply
         ensures { result ≡ step self Close }
     {
         if !is_sound(self) {
-            return plainly(self, Refusal::INPUT);
+            return refused(self, Refusal::Input);
         }
-        let t = self.transaction;
-        let phase = t.phase;
-        if !transaction::is_open(phase) {
-            return plainly(self, Refusal::PHASE_WRONG);
+        if !transaction::is_open(self.transaction.phase) {
+            return refused(self, Refusal::PhaseWrong);
         }
-        if t.spoilt {
-            self.transaction = transaction::no_transaction();
-            return plainly(self, Refusal::SPOILT_CLOSED);
+        if self.transaction.spoilt {
+            return refused(dropped(self), Refusal::SpoiltClosed);
         }
-        let mut d = lay(self, t);
-        d.transaction = transaction::no_transaction();
-        plainly(d, 0)
+        accepted(dropped(lay(self, self.transaction)))
     }
 
     // A PIN check, of a block under the transaction's key: 6, 1, 15, 7, 9, 14. The kept PIN is compared, not the pending one.
@@ -490,35 +444,31 @@ impl Card {
         ensures { Fits smc.now self.smc → result ≡ step self (CheckPin block.now) }
     {
         if !is_sound(self) {
-            return plainly(self, Refusal::INPUT);
+            return refused(self, Refusal::Input);
         }
-        let t = self.transaction;
-        let phase = t.phase;
-        if !transaction::is_open(phase) {
-            return plainly(self, Refusal::PHASE_WRONG);
+        if !transaction::is_open(self.transaction.phase) {
+            return refused(self, Refusal::PhaseWrong);
         }
         if block.len() != 8 {
-            return plainly(self, Refusal::INPUT);
+            return refused(self, Refusal::Input);
         }
         if self.tries == 0 {
-            return plainly(self, Refusal::NO_TRIES);
+            return refused(self, Refusal::NoTries);
         }
         if self.counters.decipherments == 65535 {
-            return plainly(self, Refusal::COUNTER_FULL);
+            return refused(self, Refusal::CounterFull);
         }
         compare(self, smc, block)
     }
 
     // Withdraw, which drops what is pending.
-    pub fn withdraw(mut self) -> Reply
+    pub fn withdraw(self) -> Reply
         ensures { result ≡ step self Withdraw }
     {
         if !is_sound(self) {
-            return plainly(self, Refusal::INPUT);
+            return refused(self, Refusal::Input);
         }
-        let rest = transaction::no_transaction();
-        self.transaction = rest;
-        plainly(self, 0)
+        accepted(dropped(self))
     }
 
     // Counters: 6, 1. The enciphered counter block.
@@ -532,12 +482,10 @@ impl Card {
         ensures { Fits ac.now self.ac → result ≡ step self CountersCall }
     {
         if !is_sound(self) {
-            return plainly(self, Refusal::INPUT);
+            return refused(self, Refusal::Input);
         }
-        let t = self.transaction;
-        let phase = t.phase;
-        if !transaction::is_open(phase) {
-            return plainly(self, Refusal::PHASE_WRONG);
+        if !transaction::is_open(self.transaction.phase) {
+            return refused(self, Refusal::PhaseWrong);
         }
         let bytes = counters_for(self, ac);
         Reply {

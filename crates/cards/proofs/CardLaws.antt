@@ -1,27 +1,29 @@
 -- Many cards, one by one. Assumes nothing.
 use mathlib.Core.Path.{◌≡◌, refl, sym, ap, ap₂, ◌∙◌}
 use mathlib.Core.Bool.{Bool, true, false, cond, ◌&&◌, and-false, and-eq-true_iff}
-use mathlib.Core.List.{List, ◌++◌, append_assoc, append-nil}
+use mathlib.Core.List.{List, [], ◌++◌, append_assoc, append-nil}
 use Prim.Native.Nat.{ℕ, zero, suc, ◌+◌, ◌-◌, ◌*◌, ◌/◌, ◌%◌, ◌<◌, ◌≤◌}
 use native.Mathlib.Nat.{add-zero}
 use native.Mathlib.Omega.{arith}
 use borrow.Author.Tests.{eq-eqb, ne_eqb, leb-true, leb-false}
 use lib.Dec.{leb, lit<}
-use lib.ListN.{length, get_or, take, drop, replicate, length-drop}
+use lib.ListN.{length, get_or, take, drop, length-drop, replicate}
 use lib.Seq.{paste, take-paste, drop-drop, take_all, get_or-take, get_or-drop, length-take-le}
 use Rattle.octets.specs.Lengths.{key_fits}
 use Rattle.octets.proofs.Parts.{part_part}
 use Rattle.rounds.specs.Rounds.{constants}
-use Rattle.answers.specs.declared.KeyAnswer.{KeyAnswer}
+use Rattle.answers.specs.declared.Refusal.{Refusal}
+use Rattle.answers.specs.declared.Refusal.TheVariants.{CardNumber}
+use Rattle.std.specs.Prelude.{Result, Ok, Err}
+use Rattle.std.specs.Result.{is_err, result_unwrap_or}
 use Rattle.derive.specs.Derivation.{card_label}
 use Rattle.derive.specs.Kept.{kept_words, derived_kept}
 use Rattle.derive.specs.Answers.{derivation_over}
 use Rattle.derive.proofs.Laws.{derivation_over_lem, kept_fits_lem, derived_kept_lem}
-use Rattle.answers.specs.declared.BlockAnswer.{BlockAnswer}
 use Rattle.keys.specs.CardNumber.{card_fits, Y}
-use Rattle.keys.specs.Answers.{card_answer, card_key, seed_answer}
+use Rattle.keys.specs.Answers.{card_key, seed_answer}
 use Rattle.keys.proofs.CardLaws.{too_long}
-use Rattle.keys.proofs.AnswerLaws.{seed_no}
+use Rattle.keys.proofs.AnswerLaws.{seed_no, card_is}
 use Rattle.cards.specs.Cards.{pan_of, sequence_of, all_fit, cards_keys, lengths_fit, cards_number, cards_after}
 use Rattle.cards.specs.Inner.{seed_of, keys_by}
 
@@ -36,7 +38,7 @@ module _ (cs : List ℕ) (p : ℕ) (h : p + 21 ≤ length cs) where
   count_at : get_or (take 21 (drop p cs)) 0 0 ≡ get_or cs p 0
   count_at = card_at 0 (lit< tt) ∙ ap (λ (i : ℕ). get_or cs i 0) (add-zero p)
 
-  pub seed_none : 19 < get_or cs p 0 → ◌≡◌ {A = BlockAnswer} (record { code = 2; bytes = replicate 8 0 }) (seed_of (take 21 (drop p cs)))
+  pub seed_none : 19 < get_or cs p 0 → Err CardNumber ≡ seed_of (take 21 (drop p cs))
   unfolding seed_of pan_of
   seed_none g =
       let c : List ℕ = take 21 (drop p cs) in
@@ -57,7 +59,7 @@ module _ (cs : List ℕ) (p : ℕ) (h : p + 21 ≤ length cs) where
               let k : length (take (get_or c 0 0) (drop 1 c)) ≡ 20 = ap length m ∙ n in
               omega arith
 
-  pub seed_part : (n k : ℕ) (r : BlockAnswer) → n ≡ get_or cs p 0 → n ≤ 19 → k ≡ n → r ≡ seed_answer (take k (drop (p + 1) cs)) (get_or cs (p + 20) 0) → r ≡ seed_of (take 21 (drop p cs))
+  pub seed_part : (n k : ℕ) (r : Result (List ℕ) Refusal) → n ≡ get_or cs p 0 → n ≤ 19 → k ≡ n → r ≡ seed_answer (take k (drop (p + 1) cs)) (get_or cs (p + 20) 0) → r ≡ seed_of (take 21 (drop p cs))
   unfolding seed_of pan_of sequence_of
   seed_part n k r e l q f =
       f
@@ -65,25 +67,26 @@ module _ (cs : List ℕ) (p : ℕ) (h : p + 21 ≤ length cs) where
       (sym (part_part cs p 21 1 k h (omega arith)) ∙ ap (λ (m : ℕ). take m (drop 1 (take 21 (drop p cs)))) (q ∙ e ∙ sym count_at))
       (sym (card_at 20 (lit< tt)))
 
--- a seed comes with no refusal where the card fits
-abbrev coded : Bool → List ℕ → BlockAnswer
-coded t y = cond t (record { code = 0; bytes = y }) (record { code = 2; bytes = replicate 8 0 })
-
-pub fits_of : (c : List ℕ) → (seed_of c).code ≡ 0 → card_fits (pan_of c) (sequence_of c) ≡ true
+-- a seed comes with no refusal exactly where the card fits
+pub fits_of : (c : List ℕ) → is_err (seed_of c) ≡ false → card_fits (pan_of c) (sequence_of c) ≡ true
 unfolding seed_of seed_answer
-fits_of c e = by_case (card_fits (pan_of c) (sequence_of c)) e
+fits_of c e = go (card_fits (pan_of c) (sequence_of c)) e
   where
-    by_case : (t : Bool) → (coded t (Y (pan_of c) (sequence_of c))).code ≡ 0 → t ≡ true
-    by_case true e = refl
-    by_case false e = absurd (omega (arith, e))
+    go : (t : Bool) → is_err (cond t (Ok (Y (pan_of c) (sequence_of c))) (Err CardNumber)) ≡ false → t ≡ true
+    go true e = refl
+    go false e = sym e
 
-pub unfit_of : (c : List ℕ) → ((seed_of c).code ≡ 0 → ⊥) → card_fits (pan_of c) (sequence_of c) ≡ false
+pub unfit_of : (c : List ℕ) → is_err (seed_of c) ≡ true → card_fits (pan_of c) (sequence_of c) ≡ false
 unfolding seed_of seed_answer
-unfit_of c n = by_case (card_fits (pan_of c) (sequence_of c)) n
+unfit_of c e = go (card_fits (pan_of c) (sequence_of c)) e
   where
-    by_case : (t : Bool) → ((coded t (Y (pan_of c) (sequence_of c))).code ≡ 0 → ⊥) → t ≡ false
-    by_case true n = absurd (n refl)
-    by_case false n = refl
+    go : (t : Bool) → is_err (cond t (Ok (Y (pan_of c) (sequence_of c))) (Err CardNumber)) ≡ true → t ≡ false
+    go true e = sym e
+    go false e = refl
+
+pub seed_is : (c : List ℕ) → card_fits (pan_of c) (sequence_of c) ≡ true → seed_of c ≡ Ok (Y (pan_of c) (sequence_of c))
+unfolding seed_of seed_answer
+seed_is c f = simp f
 
 -- i of n cards are looked at
 module _ (cs : List ℕ) (n i : ℕ) (h : i < n) where
@@ -93,21 +96,30 @@ module _ (cs : List ℕ) (n i : ℕ) (h : i < n) where
   left : n - i ≡ suc (n - (i + 1))
   left = omega arith
 
-  pub fit_turn : (seed_of (take 21 (drop (21 * i) cs))).code ≡ 0 → all_fit (n - (i + 1)) (drop (21 * (i + 1)) cs) ≡ all_fit (n - i) (drop (21 * i) cs)
+  pub fit_turn : is_err (seed_of (take 21 (drop (21 * i) cs))) ≡ false → all_fit (n - (i + 1)) (drop (21 * (i + 1)) cs) ≡ all_fit (n - i) (drop (21 * i) cs)
   unfolding all_fit
   fit_turn e =
       ap (all_fit (n - (i + 1))) (sym next)
       ∙ ap (λ (t : Bool). t && all_fit (n - (i + 1)) (drop 21 (drop (21 * i) cs))) (sym (fits_of (take 21 (drop (21 * i) cs)) e))
       ∙ ap (λ (k : ℕ). all_fit k (drop (21 * i) cs)) (sym left)
 
-  pub fit_not : ((seed_of (take 21 (drop (21 * i) cs))).code ≡ 0 → ⊥) → false ≡ all_fit (n - i) (drop (21 * i) cs)
+  pub fit_not : is_err (seed_of (take 21 (drop (21 * i) cs))) ≡ true → false ≡ all_fit (n - i) (drop (21 * i) cs)
   unfolding all_fit
   fit_not e =
       ap (λ (t : Bool). t && all_fit (n - (i + 1)) (drop 21 (drop (21 * i) cs))) (sym (unfit_of (take 21 (drop (21 * i) cs)) e))
       ∙ ap (λ (k : ℕ). all_fit k (drop (21 * i) cs)) (sym left)
 
+  -- the next card fits, and those after it
+  pub next_fits : all_fit (n - i) (drop (21 * i) cs) ≡ true
+      → (card_fits (pan_of (take 21 (drop (21 * i) cs))) (sequence_of (take 21 (drop (21 * i) cs))) ≡ true) × (all_fit (n - (i + 1)) (drop (21 * (i + 1)) cs) ≡ true)
+  unfolding all_fit
+  next_fits e =
+      let c : List ℕ = take 21 (drop (21 * i) cs) in
+      let f = (and-eq-true_iff (card_fits (pan_of c) (sequence_of c)) (all_fit (n - (i + 1)) (drop 21 (drop (21 * i) cs)))).0 (ap (λ (k : ℕ). all_fit k (drop (21 * i) cs)) (sym left) ∙ e) in
+      (f.0, ap (all_fit (n - (i + 1))) (sym next) ∙ f.1)
+
   -- a key written
-  pub key_turn : (k out key : List ℕ) → length out ≡ 32 * n → length key ≡ 32 → key ≡ derived_kept k card_label (seed_of (take 21 (drop (21 * i) cs))).bytes
+  pub key_turn : (k out key : List ℕ) → length out ≡ 32 * n → length key ≡ 32 → key ≡ derived_kept k card_label (Y (pan_of (take 21 (drop (21 * i) cs))) (sequence_of (take 21 (drop (21 * i) cs))))
       → take (32 * (i + 1)) (paste out (32 * i) key 32) ++ keys_by k (n - (i + 1)) (drop (21 * (i + 1)) cs) ≡ take (32 * i) out ++ keys_by k (n - i) (drop (21 * i) cs)
   unfolding keys_by
   key_turn k out key m l e =
@@ -130,24 +142,22 @@ key_end k cs out n i e m =
     sym (take_all (32 * i) out (omega arith)) ∙ sym (append-nil (take (32 * i) out)) ∙ ap (λ (j : ℕ). take (32 * i) out ++ keys_by k j (drop (21 * i) cs)) z
 
 -- a key comes with no refusal where the words are 256
-pub key_bytes : (cs : List (List ℕ)) (ws seed : List ℕ) (r : KeyAnswer) (l : List ℕ) → length ws ≡ 256 → length seed ≡ 8 → cs ≡ constants → l ≡ card_label
-    → r ≡ derivation_over cs ws l seed → r.bytes ≡ derived_kept ws card_label seed
+pub key_is : (cs : List (List ℕ)) (ws seed : List ℕ) (r : Result (List ℕ) Refusal) (l : List ℕ) → length ws ≡ 256 → length seed ≡ 8 → cs ≡ constants → l ≡ card_label
+    → r ≡ derivation_over cs ws l seed → r ≡ Ok (derived_kept ws card_label seed)
 unfolding card_label
-key_bytes cs ws seed r l h n d e f =
-    ap (λ (x : KeyAnswer). x.bytes)
-    (f
+key_is cs ws seed r l h n d e f =
+    f
     ∙ ap₂ (λ (x : List (List ℕ)) (y : List ℕ). derivation_over x ws y seed) d e
     ∙ derivation_over_lem ws card_label seed refl n
-    ∙ sym (kept_fits_lem ws card_label seed h))
+    ∙ sym (kept_fits_lem ws card_label seed h)
 
 -- the keys under the kept key are the cards' keys
 module _ (key : List ℕ) (h : length key ≡ 32) where
-  one : (c : List ℕ) → card_fits (pan_of c) (sequence_of c) ≡ true → derived_kept (kept_words key) card_label (seed_of c).bytes ≡ (card_key key (pan_of c) (sequence_of c)).bytes
-  unfolding seed_of seed_answer card_key card_answer key_fits
+  one : (c : List ℕ) → card_fits (pan_of c) (sequence_of c) ≡ true
+      → derived_kept (kept_words key) card_label (Y (pan_of c) (sequence_of c)) ≡ result_unwrap_or (card_key key (pan_of c) (sequence_of c)) (replicate 32 0)
   one c f =
-      ap (λ (t : Bool). derived_kept (kept_words key) card_label (coded t (Y (pan_of c) (sequence_of c))).bytes) f
-      ∙ derived_kept_lem key card_label (Y (pan_of c) (sequence_of c)) h
-      ∙ sym (simp (eq-eqb _ _ h, f))
+      derived_kept_lem key card_label (Y (pan_of c) (sequence_of c)) h
+      ∙ sym (ap (λ (r : Result (List ℕ) Refusal). result_unwrap_or r (replicate 32 0)) (card_is key h (pan_of c) (sequence_of c) f))
 
   pub keys_kept : (n : ℕ) (cs : List ℕ) → all_fit n cs ≡ true → keys_by (kept_words key) n cs ≡ cards_keys key n cs
   unfolding keys_by cards_keys all_fit

@@ -1,6 +1,7 @@
 -- The master keys of many cards (003, clause 4.1). A card is 21 bytes: the number of digits, nineteen places for them, and the sequence number.
 -- Assumes nothing.
-use Rattle.std.specs.Prelude.{ℕ, zero, suc, ◌*◌, ◌/◌, ◌%◌, Bool, true, ◌&&◌, cond, List, [], ◌++◌, eqb, length, get_or, take, drop}
+use Rattle.std.specs.Prelude.{ℕ, zero, suc, ◌*◌, ◌/◌, ◌%◌, Bool, true, ◌&&◌, cond, List, [], ◌++◌, eqb, length, get_or, take, drop, replicate}
+use Rattle.std.specs.Result.{result_unwrap_or}
 use Rattle.answers.specs.declared.Refusal.TheVariants.{Input, CardNumber}
 use Rattle.answers.specs.Refusals.{number}
 use Rattle.octets.specs.Lengths.{key_fits}
@@ -22,7 +23,7 @@ all_fit (suc k) cs = card_fits (pan_of (take 21 cs)) (sequence_of (take 21 cs)) 
 -- the keys of the first k cards, one after the other
 unfoldable pub cards_keys : List ℕ → ℕ → List ℕ → List ℕ
 cards_keys issuer zero cs = []
-cards_keys issuer (suc k) cs = (card_key issuer (pan_of (take 21 cs)) (sequence_of (take 21 cs))).bytes ++ cards_keys issuer k (drop 21 cs)
+cards_keys issuer (suc k) cs = result_unwrap_or (card_key issuer (pan_of (take 21 cs)) (sequence_of (take 21 cs))) (replicate 32 0) ++ cards_keys issuer k (drop 21 cs)
 
 -- a key of 32 bytes, whole cards, and 32 bytes lent for each
 unfoldable pub lengths_fit : List ℕ → List ℕ → List ℕ → Bool

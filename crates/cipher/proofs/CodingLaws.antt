@@ -1,6 +1,6 @@
 -- The code under way: the cutting at blocks of eight, the ways through the functions, and what they answer. Assumes nothing.
-use mathlib.Core.Path.{◌≡◌, refl, sym, ap, ap₂, subst, ◌∙◌}
-use mathlib.Core.Bool.{Bool, true, false, not, cond, and-false}
+use mathlib.Core.Path.{◌≡◌, refl, sym, ap, ap₂, subst, transport, ◌∙◌}
+use mathlib.Core.Bool.{Bool, true, false, not, cond, and-false, false≢true}
 use mathlib.Core.List.{List, [], ◌∷◌, ◌++◌, append_assoc, append-nil}
 use Prim.Native.Nat.{ℕ, suc, ◌+◌, ◌-◌, ◌*◌, ◌/◌, ◌%◌, ◌<◌, ◌≤◌}
 use native.Mathlib.Nat.{mod-eq_of_lt, zero-add}
@@ -8,20 +8,24 @@ use native.Mathlib.Numerals.{add-one}
 use native.Mathlib.Omega.{arith}
 use borrow.Author.Tests.{eqb-true, eqb-false, eq-eqb, ne_eqb, le-leb, lt-leb}
 use lib.Dec.{lit<, eqb}
-use lib.ListN.{length, take, drop, set, get_or, replicate, length-append, length-drop, take-append-drop}
+use lib.ListN.{length, take, drop, set, get_or, replicate, length-append, length-drop, length-set, take-append-drop}
 use lib.Seq.{set_at, length-take-le, take_all, take_at, take-suc, drop-length, drop-drop}
 use Rattle.octets.specs.Numbers.{le_octets}
 use Rattle.octets.specs.Lengths.{key_fits}
 use Rattle.blocks.specs.Blocks.{absorbed, tail}
-use Rattle.blocks.specs.Parts.{filled, fits, fitting, poured, counted, CutAnyWay}
+use Rattle.blocks.specs.Parts.{filled, fits, part_number, poured, counted, after, CutAnyWay}
 use Rattle.blocks.proofs.Laws.{absorbed_step, absorbed_end, tail_end, tail_short, tail_whole}
-use Rattle.blocks.proofs.PartLaws.{held_filled, Keeps, refused, accepted, total_poured, poured_none, poured_poured, settled_none, cut_any_way}
+use Rattle.blocks.proofs.PartLaws.{held_filled, Keeps, total_poured, poured_none, poured_poured, settled_none, cut_any_way}
 use Rattle.gost.specs.declared.Halves.{Halves}
 use Rattle.gost.specs.Gost.{rounds, halves, subkeys}
 use Rattle.cipher.specs.declared.Coding.{Coding}
-use Rattle.cipher.specs.declared.CodeFed.{CodeFed}
+use Rattle.std.specs.Prelude.{Ok, Err}
+use Rattle.std.specs.Result.{result_unwrap_or}
+use Rattle.answers.specs.declared.Refusal.{Refusal}
+use Rattle.answers.specs.declared.Refusal.TheVariants.{Input}
+use Rattle.answers.specs.Answers.{number_told}
 use Rattle.cipher.specs.Code.{added, code_step, start, state, code_of}
-use Rattle.cipher.specs.Answers.{no_code, coded_with, coded}
+use Rattle.cipher.specs.Answers.{coded_with, coded}
 use Rattle.cipher.proofs.AnswerLaws.{no_octets, no_whole, string_fits_lem, code_key}
 use Rattle.cipher.specs.Coding.{coding_of, held, code_way, coding_begun, code_begun, code_fed, is_whole, code_ended}
 
@@ -109,7 +113,7 @@ module _ (s : Coding) (b : ℕ) (r : Ready s) (hb : length s.buffer ≡ 8) where
       ∙ ap₂ (λ (g : Halves) (t : List ℕ). coding_of s.subkeys g t s.total)
       (sym (absorbed_end 8 (lit< tt) (code_step s.subkeys) s.halves x l)) (sym (tail_end 8 (lit< tt) x l))
 
-  pub push_full : 7 ≤ s.fill → (h : Halves) → h ≡ rounds (s.subkeys ++ s.subkeys) (added s.halves (halves (take 8 (set s.buffer s.fill b))))
+  pub push_full : 7 ≤ s.fill → (h : Halves) → h ≡ rounds (s.subkeys ++ s.subkeys) (added s.halves (halves (set s.buffer s.fill b)))
       → record { subkeys = s.subkeys; halves = h; buffer = replicate 8 0; fill = 0; total = s.total } ≡ poured code_way s (b ∷ []) s.total
   unfolding poured coding_of code_step filled
   push_full l h e =
@@ -121,7 +125,8 @@ module _ (s : Coding) (b : ℕ) (r : Ready s) (hb : length s.buffer ≡ 8) where
       absorbed_step 8 (lit< tt) f s.halves x (omega arith)
       ∙ ap₂ (λ (u v : List ℕ). absorbed 8 f (f s.halves u) v) (take_all 8 x (omega arith)) d
       ∙ absorbed_end 8 (lit< tt) f (f s.halves x) [] (lit< tt) in
-      let whole : take 8 (set s.buffer s.fill b) ≡ x = ap (take 8) pushed ∙ take_at x (replicate (8 - length x) 0) 8 n in
+      let whole : set s.buffer s.fill b ≡ x =
+      sym (take_all 8 (set s.buffer s.fill b) (simp length-set (omega arith))) ∙ ap (take 8) pushed ∙ take_at x (replicate (8 - length x) 0) 8 n in
       let g : h ≡ f s.halves x = e ∙ ap (λ (u : List ℕ). rounds (s.subkeys ++ s.subkeys) (added s.halves (halves u))) whole in
       ap₂ (λ (u : Halves) (v : List ℕ). coding_of s.subkeys u v s.total) (g ∙ sym one) (sym (tail_whole 8 (lit< tt) 1 x (n ∙ omega arith)))
 
@@ -228,49 +233,67 @@ module _ (s : Coding) (m : List ℕ) where
 
 -- what is answered
 module _ (key : List ℕ) where
-  pub begun_not : (length key ≡ 32 → ⊥) → (s : Coding) → s ≡ coding_begun (replicate 8 0) → record { code = 1; state = s } ≡ code_begun key
+  pub begun_not : (length key ≡ 32 → ⊥) → Err Input ≡ code_begun key
   unfolding code_begun key_fits
-  begun_not h s e = simp (ne_eqb _ _ h) (ap (λ (x : Coding). record { code = 1; state = x }) e)
+  begun_not h = simp (ne_eqb _ _ h)
 
-  pub begun_fits : length key ≡ 32 → (ks : List ℕ) (s : Coding) → ks ≡ subkeys 8 key → s ≡ coding_begun ks → record { code = 0; state = s } ≡ code_begun key
+  pub begun_fits : length key ≡ 32 → Ok (coding_begun (subkeys 8 key)) ≡ code_begun key
   unfolding code_begun key_fits
-  begun_fits h ks s ek es = simp (eq-eqb _ _ h) (ap (λ (x : Coding). record { code = 0; state = x }) (es ∙ ap coding_begun ek))
+  begun_fits h = simp (eq-eqb _ _ h)
 
-  pub code_begins : (code_begun key).code ≡ cond (eqb (length key) 32) 0 1
+  pub code_begins : number_told (code_begun key) ≡ cond (eqb (length key) 32) 0 1
   unfolding code_begun key_fits
   code_begins = by (eqb (length key) 32)
     where
-      by : (b : Bool) → (cond {A = CodeFed} b (record { code = 0; state = coding_begun (subkeys 8 key) }) (record { code = 1; state = coding_begun (replicate 8 0) })).code ≡ cond {A = ℕ} b 0 1
+      by : (b : Bool) → number_told {T = Coding} (cond b (Ok (coding_begun (subkeys 8 key))) (Err Input)) ≡ cond {A = ℕ} b 0 1
       by true = refl
       by false = refl
 
 module _ (s : Coding) (m : List ℕ) where
-  pub fed_not : (r : Bool) → r ≡ fits s.total (length m) → not r ≡ true → record { code = 1; state = s } ≡ code_fed s m
+  pub fed_not : (r : Bool) → r ≡ fits s.total (length m) → not r ≡ true → Err Input ≡ code_fed s m
   unfolding code_fed
-  fed_not r e h = let p = refused code_way code_keeps s m r e h in (λ k. record { code = p.0 k; state = p.1 k })
+  fed_not true e h = absurd (false≢true h)
+  fed_not false e h = ap (λ (b : Bool). cond b (Ok (counted code_way s m)) (Err Input)) e
 
   pub fed_fits : (r : Bool) → r ≡ fits s.total (length m) → not r ≡ false → (t : Coding) → t ≡ poured code_way s m s.total
-      → record { code = 0; state = record { subkeys = t.subkeys; halves = t.halves; buffer = t.buffer; fill = t.fill; total = s.total + length m } } ≡ code_fed s m
+      → Ok (record { subkeys = t.subkeys; halves = t.halves; buffer = t.buffer; fill = t.fill; total = s.total + length m }) ≡ code_fed s m
   unfolding code_fed counted poured coding_of
-  fed_fits r e h t q =
-      let p = accepted code_way code_keeps s m r e h in
-      ap (λ (x : Coding). record { code = 0; state = record { subkeys = x.subkeys; halves = x.halves; buffer = x.buffer; fill = x.fill; total = s.total + length m } }) q
-      ∙ (λ k. record { code = p.0 k; state = p.1 k })
+  fed_fits false e h t q = absurd (false≢true (sym h))
+  fed_fits true e h t q =
+      ap (λ (x : Coding). Ok (record { subkeys = x.subkeys; halves = x.halves; buffer = x.buffer; fill = x.fill; total = s.total + length m })) q
+      ∙ ap (λ (b : Bool). cond b (Ok (counted code_way s m)) (Err Input)) e
+
+  -- a part's number, and the state after it
+  fed_number : number_told (code_fed s m) ≡ part_number s.total m
+  unfolding code_fed part_number
+  fed_number = by (fits s.total (length m))
+    where
+      by : (b : Bool) → number_told {T = Coding} (cond b (Ok (counted code_way s m)) (Err Input)) ≡ cond {A = ℕ} b 0 1
+      by true = refl
+      by false = refl
+
+  fed_after : result_unwrap_or (code_fed s m) s ≡ after code_way s m
+  unfolding code_fed after
+  fed_after = by (fits s.total (length m))
+    where
+      by : (b : Bool) → result_unwrap_or {T = Coding} {E = Refusal} (cond b (Ok (counted code_way s m)) (Err Input)) s ≡ cond b (counted code_way s m) s
+      by true = refl
+      by false = refl
 
 module _ (s : Coding) where
   pub length_held_of : length s.buffer ≡ 8 → length (held s) ≡ s.fill % 8
   unfolding held
   length_held_of h = length-take-le (s.fill % 8) s.buffer (omega arith)
 
-  pub end_none : s.total < 8 → no_code ≡ code_ended s
+  pub end_none : s.total < 8 → Err Input ≡ code_ended s
   unfolding code_ended is_whole
   end_none h = simp (lt-leb _ _ h)
 
-  pub end_left : (length (held s) ≡ 0 → ⊥) → no_code ≡ code_ended s
+  pub end_left : (length (held s) ≡ 0 → ⊥) → Err Input ≡ code_ended s
   unfolding code_ended is_whole
   end_left h = simp (ne_eqb _ _ h, and-false)
 
-  pub end_whole : 8 ≤ s.total → length (held s) ≡ 0 → record { code = 0; bytes = le_octets 4 s.halves.n1 } ≡ code_ended s
+  pub end_whole : 8 ≤ s.total → length (held s) ≡ 0 → Ok (le_octets 4 s.halves.n1) ≡ code_ended s
   unfolding code_ended is_whole
   end_whole h l = simp (le-leb _ _ h, eq-eqb _ _ l)
 
@@ -304,7 +327,7 @@ module _ (ks m : List ℕ) where
       let some : length m ≡ 0 → ⊥ = eqb-false _ _ ez in
       let whole : length m % 8 ≡ 0 = eqb-true _ _ ep in
       sym (end_whole fed_all (omega (arith, total_all, some)) (length_all ∙ whole))
-      ∙ ap (λ (y : List ℕ). record { code = 0; bytes = y }) bytes_all
+      ∙ ap Ok bytes_all
       ∙ string_fits_lem ks m some whole
 
   ended_all : code_ended (counted code_way (coding_begun ks) m) ≡ coded_with ks m
@@ -320,21 +343,17 @@ settled : (ks : List ℕ) → counted code_way (coding_begun ks) [] ≡ coding_b
 unfolding coding_begun coding_of
 settled ks = settled_none code_way code_keeps (coding_begun ks) start 0
 
-pub under_cut : (ks : List ℕ) → CutAnyWay (coding_begun ks) (λ s m. (code_fed s m).code) (λ s m. (code_fed s m).state) code_ended (coded_with ks)
-unfolding coding_begun code_fed
+pub under_cut : (ks : List ℕ) → CutAnyWay (coding_begun ks) (λ s m. part_number s.total m) (after code_way) code_ended (coded_with ks)
+unfolding coding_begun
 under_cut ks = cut_any_way code_way code_keeps (coding_begun ks) code_ended (coded_with ks) (settled ks) (total_coding ks start [] 0) (ended_all ks)
 
--- Wish 5, for the code
-pub code_cut : (key : List ℕ) → length key ≡ 32 → CutAnyWay (code_begun key).state (λ s m. (code_fed s m).code) (λ s m. (code_fed s m).state) code_ended (coded key)
+-- Wish 5, for the code: a key of 32 bytes begins a state of which parts cut any way give the answer of the whole
+pub code_cut : (key : List ℕ) → length key ≡ 32
+    → (s : Coding) × (code_begun key ≡ Ok s) × CutAnyWay s (λ x m. number_told (code_fed x m)) (λ x m. result_unwrap_or (code_fed x m) x) code_ended (coded key)
 code_cut key h =
     let ks : List ℕ = subkeys 8 key in
     let c = under_cut ks in
-    subst (λ (s : Coding). CutAnyWay s (λ x m. (code_fed x m).code) (λ x m. (code_fed x m).state) code_ended (coded key))
-    (ap (λ (f : CodeFed). f.state) (begun_fits key h ks (coding_begun ks) refl refl))
-    record {
-      answered = λ ms. c.answered ms ∙ code_key key (fitting 0 ms) h;
-      numbered = c.numbered;
-      unchanged = c.unchanged;
-      same = c.same;
-      within = c.within;
-    }
+    let n : (λ (x : Coding) (m : List ℕ). part_number x.total m) ≡ (λ (x : Coding) (m : List ℕ). number_told (code_fed x m)) = λ k x m. sym (fed_number x m) k in
+    let a : after code_way ≡ (λ (x : Coding) (m : List ℕ). result_unwrap_or (code_fed x m) x) = λ k x m. sym (fed_after x m) k in
+    let r : coded_with ks ≡ coded key = λ k m. code_key key m h k in
+    (coding_begun ks, sym (begun_fits key h), transport (λ k. CutAnyWay (coding_begun ks) (n k) (a k) code_ended (r k)) c)

@@ -6,21 +6,23 @@ use lib.ListN.{length}
 use Rattle.octets.specs.Numbers.{Octets}
 use Rattle.gost.specs.Gost.{encipher, decipher}
 use Rattle.gost.proofs.Inverse.{length-encipher, length-decipher, decipher-encipher, encipher-decipher}
-use Rattle.answers.specs.declared.BlockAnswer.{BlockAnswer}
+use Rattle.std.specs.Prelude.{Ok}
 use Rattle.cipher.specs.Answers.{enciphered, deciphered}
 use Rattle.cipher.proofs.AnswerLaws.{fits}
 
 module _ (b : List ℕ) (e : length b ≡ 8) (o : Octets b) where
-  pub deciphered-enciphered : (key : List ℕ) → length key ≡ 32 → deciphered key (enciphered key b).bytes ≡ record { code = 0; bytes = b }
+  pub deciphered-enciphered : (key : List ℕ) → length key ≡ 32 → (x : List ℕ) × (enciphered key b ≡ Ok x) × (deciphered key x ≡ Ok b)
   unfolding deciphered enciphered
-  deciphered-enciphered key k =
-      ap (λ (a : BlockAnswer). deciphered key a.bytes) (sym (fits key b (encipher key b) k e))
-      ∙ sym (fits key (encipher key b) (decipher key (encipher key b)) k (length-encipher key b))
-      ∙ ap (λ (x : List ℕ). record { code = 0; bytes = x }) (decipher-encipher b e o key)
+  deciphered-enciphered key k = (
+    encipher key b,
+    sym (fits key b (encipher key b) k e),
+    sym (fits key (encipher key b) (decipher key (encipher key b)) k (length-encipher key b)) ∙ ap Ok (decipher-encipher b e o key),
+  )
 
-  pub enciphered-deciphered : (key : List ℕ) → length key ≡ 32 → enciphered key (deciphered key b).bytes ≡ record { code = 0; bytes = b }
+  pub enciphered-deciphered : (key : List ℕ) → length key ≡ 32 → (x : List ℕ) × (deciphered key b ≡ Ok x) × (enciphered key x ≡ Ok b)
   unfolding deciphered enciphered
-  enciphered-deciphered key k =
-      ap (λ (a : BlockAnswer). enciphered key a.bytes) (sym (fits key b (decipher key b) k e))
-      ∙ sym (fits key (decipher key b) (encipher key (decipher key b)) k (length-decipher key b))
-      ∙ ap (λ (x : List ℕ). record { code = 0; bytes = x }) (encipher-decipher b e o key)
+  enciphered-deciphered key k = (
+    decipher key b,
+    sym (fits key b (decipher key b) k e),
+    sym (fits key (decipher key b) (encipher key (decipher key b)) k (length-decipher key b)) ∙ ap Ok (encipher-decipher b e o key),
+  )

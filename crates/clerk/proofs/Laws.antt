@@ -1,5 +1,5 @@
 -- Feeding again what a full buffer left: the trace goes on as if it had been fed at once, and so do the answers; and what an error leaves. Assumes nothing.
-use Prim.Native.Nat.{ℕ, ◌+◌, ◌-◌, ◌≤◌}
+use Prim.Native.Nat.{ℕ, ◌+◌, ◌-◌}
 use native.Mathlib.Nat.{zero-add}
 use mathlib.Core.Path.{◌≡◌, sym, ap, ap₂, ◌∙◌, subst}
 use Rattle.std.proofs.Common.{Option, Some, None, IfSome, ◌<◌, ◌^◌, arith, length-append}
@@ -8,10 +8,10 @@ use Rattle.clerk.specs.Answered.{Answered, AppendsSome}
 use Rattle.trace.specs.Traced.{traced}
 use Rattle.std.specs.Io.KnownBytes.{Appends, Consumes}
 use Rattle.std.proofs.KnownBytes.{Appends-trans}
-use mathlib.Core.List.{List, [], ◌++◌, append-nil}
-use Rattle.std.proofs.Common.{append_assoc, Result, Ok, Err, OnErr}
-use lib.ListN.{length, take, drop, take-append-drop, drop_of_length-le}
-use lib.Seq.{drop-drop, take-append_seam}
+use mathlib.Core.List.{List, [], ◌∷◌, ◌++◌, append-nil}
+use Rattle.std.proofs.Common.{append_assoc, Result, Ok, Err, OnErr, OnOk}
+use lib.ListN.{length, take, drop, take-append-drop}
+use lib.Seq.{take-append_seam}
 use Rattle.trace.specs.declared.Trace.{Trace}
 use Rattle.trace.specs.declared.Filled.{Filled}
 use Rattle.trace.specs.Feeding.{begun, ended, answer_in, after_all, answers_all, Filling, filling, Fills}
@@ -27,20 +27,15 @@ goes_on t s d₀ d r f =
     ap₂ after_all e (ap (λ (k : ℕ). drop k s) x) ∙ sym (fed_fed t (take a.count s) (drop a.count s)).0 ∙ ap (after_all t) (take-append-drop a.count s)
 
 -- the rest of a block, fed again
-pub goes_on_from : (t t₀ : Trace) (b d₀ d : List ℕ) (r : Filled) (k : ℕ) → Fills (filling (length d₀) t (take (length b - k) (drop k b))) d₀ r d
-    → after_all t (drop k b) ≡ after_all t₀ b → after_all r.trace (drop (k + r.taken) b) ≡ after_all t₀ b
-goes_on_from t t₀ b d₀ d r k f e =
-    let z = goes_on t (take (length b - k) (drop k b)) d₀ d r f in
-    ap (after_all r.trace) (sym (drop-drop r.taken k b))
-    ∙ ap (λ (s : List ℕ). after_all r.trace (drop r.taken s)) (sym (rest_all k b))
-    ∙ z
-    ∙ ap (after_all t) (rest_all k b)
-    ∙ e
+pub goes_on_rest : (t t₀ : Trace) (s b d₀ d : List ℕ) (r : Filled) → Fills (filling (length d₀) t s) d₀ r d → after_all t s ≡ after_all t₀ b
+    → after_all r.trace (take (length s - r.taken) (drop r.taken s)) ≡ after_all t₀ b
+goes_on_rest t t₀ s b d₀ d r f e = ap (after_all r.trace) (rest_all r.taken s) ∙ goes_on t s d₀ d r f ∙ e
 
 -- a block used up
-pub used_up : (t t₀ : Trace) (b : List ℕ) (k : ℕ) → length b ≤ k → after_all t (drop k b) ≡ after_all t₀ b → t ≡ after_all t₀ b
+pub used_up : (t t₀ : Trace) (s b : List ℕ) → length s ≡ 0 → after_all t s ≡ after_all t₀ b → t ≡ after_all t₀ b
 unfolding after_all
-used_up t t₀ b k h e = ap (after_all t) (sym (drop_of_length-le b h)) ∙ e
+used_up t t₀ [] b h e = e
+used_up t t₀ (x ∷ s) b h e = absurd (omega arith)
 
 -- what is written, and what is to be written for the rest
 pub says_on : (t : Trace) (s d₀ d : List ℕ) (r : Filled) → Fills (filling (length d₀) t s) d₀ r d
@@ -55,17 +50,15 @@ says_on t s d₀ d r f =
     ∙ sym (fed_fed t (take a.count s) (drop a.count s)).1
     ∙ ap (answers_all t) (take-append-drop a.count s)
 
-pub says_on_from : (t : Trace) (b d₀ d : List ℕ) (r : Filled) (k : ℕ) → Fills (filling (length d₀) t (take (length b - k) (drop k b))) d₀ r d
-    → take r.written d ++ answers_all r.trace (drop (k + r.taken) b) ≡ answers_all t (drop k b)
-says_on_from t b d₀ d r k f =
-    ap (λ (s : List ℕ). take r.written d ++ answers_all r.trace s) (sym (drop-drop r.taken k b))
-    ∙ ap (λ (s : List ℕ). take r.written d ++ answers_all r.trace (drop r.taken s)) (sym (rest_all k b))
-    ∙ says_on t (take (length b - k) (drop k b)) d₀ d r f
-    ∙ ap (answers_all t) (rest_all k b)
+pub says_on_rest : (t : Trace) (s d₀ d : List ℕ) (r : Filled) → Fills (filling (length d₀) t s) d₀ r d
+    → take r.written d ++ answers_all r.trace (take (length s - r.taken) (drop r.taken s)) ≡ answers_all t s
+says_on_rest t s d₀ d r f =
+    ap (λ (x : List ℕ). take r.written d ++ answers_all r.trace x) (rest_all r.taken s) ∙ says_on t s d₀ d r f
 
-pub said_all : (t t₀ : Trace) (b w : List ℕ) (k : ℕ) → length b ≤ k → w ++ answers_all t (drop k b) ≡ answers_all t₀ b → w ≡ answers_all t₀ b
+pub said_all : (t t₀ : Trace) (s b w : List ℕ) → length s ≡ 0 → w ++ answers_all t s ≡ answers_all t₀ b → w ≡ answers_all t₀ b
 unfolding answers_all
-said_all t t₀ b w k h e = sym (append-nil w) ∙ ap (λ (s : List ℕ). w ++ answers_all t s) (sym (drop_of_length-le b h)) ∙ e
+said_all t t₀ [] b w h e = sym (append-nil w) ∙ e
+said_all t t₀ (x ∷ s) b w h e = absurd (omega arith)
 
 -- what a block adds to what was answered before it
 pub said_more : (o u v : Option (List ℕ)) (t : Trace) (bs p : List ℕ) → t ≡ after_all begun bs → Appends o u (answers_all begun bs) → Appends u v (answers_all t p)
@@ -101,6 +94,15 @@ whole (Some s) (Some r) o u v t x w =
 pub at_error : {T E P : Type 0} (r : Result T E) → P → OnErr r P
 at_error (Ok x) p = tt
 at_error (Err e) p = p
+
+-- what it says more of its answer, where it hands on another's
+pub ok_more : {T E P Q : Type 0} (r : Result T E) → (P → Q) → OnOk r P → OnOk r Q
+ok_more (Ok x) f p = f p
+ok_more (Err e) f p = tt
+
+pub err_more : {T E P Q : Type 0} (r : Result T E) → (P → Q) → OnErr r P → OnErr r Q
+err_more (Ok x) f p = tt
+err_more (Err e) f p = f p
 
 -- the front of some bytes, appended
 pub some_of : (o v : Option (List ℕ)) (all done rest : List ℕ) → all ≡ done ++ rest → Appends o v done → AppendsSome o v all

@@ -50,13 +50,12 @@ fn answer<W: Write>(trace: Trace, block: &[u8], out: &mut [u8], to: &mut W) -> i
     ensures err_written { OnErr result (AppendsSome (W.contents to.old) (W.contents to.new) (answers_all trace block.now)) }
 {
     let mut t = trace;
-    let mut from = 0;
-    while from < block.len() {
-        let f = trace::feed_into(t, &block[from..], out);
-        let n = f.written;
-        write_out(to, &out[..n])?;
+    let mut rest = block;
+    while !rest.is_empty() {
+        let f = trace::feed_into(t, rest, out);
+        write_out(to, &out[..f.written])?;
         t = f.trace;
-        from += f.taken;
+        rest = &rest[f.taken..];
     }
     Ok(t)
 }
@@ -96,10 +95,7 @@ fn run<R: Read, W: Write>(from: &mut R, to: &mut W) -> io::Result<()>
     let mut out = [0; 65536];
     let t = answer_all(&mut block, &mut out, from, to)?;
     let last = trace::end(t);
-    let text = last.answer;
-    let n = last.count as usize;
-    write_out(to, &text[..n])?;
-    Ok(())
+    write_out(to, &last.answer[..last.count as usize])
 }
 
 fn main(rt: HostRuntime) -> io::Result<()> {

@@ -7,30 +7,23 @@ use native.Mathlib.Omega.{arith}
 use borrow.Author.Tests.{eq-eqb, ne_eqb, eqb-true}
 use lib.Dec.{eqb}
 use lib.ListN.{length, length-append}
+use Rattle.std.specs.Prelude.{Option, Some, None, Ok, Err}
 use Rattle.octets.specs.Lengths.{key_fits}
 use Rattle.gost.specs.Gost.{subkeys}
-use Rattle.cipher.specs.declared.CodeAnswer.{CodeAnswer}
-use Rattle.cipher.specs.Answers.{coded, coded_with}
+use Rattle.cipher.specs.Answers.{coded_with}
 use Rattle.cipher.specs.Code.{code_of}
-use Rattle.cipher.proofs.AnswerLaws.{string_fits_lem, code_key}
+use Rattle.cipher.proofs.AnswerLaws.{string_fits_lem}
 use Rattle.cipher.proofs.CodeLaws.{length_code_of}
 use Rattle.cryptogram.specs.declared.Kind.{Kind}
 use Rattle.cryptogram.specs.declared.Kind.TheVariants.{Arqc, Tc, Aac}
-use Rattle.cryptogram.specs.declared.KindRead.{KindRead}
-use Rattle.cryptogram.specs.declared.KindRead.TheVariants.{Known, Unknown}
+use Rattle.answers.specs.declared.Refusal.TheVariants.{Input}
 use Rattle.cryptogram.specs.Cryptogram.{twice, double_code, cryptogram_of, arpc_of}
-use Rattle.answers.specs.Answers.{a_block, no_block}
 use Rattle.cryptogram.specs.Answers.{cryptogram_answer, arpc_answer, kind_number, kind_of, kind_code, kind_values, ReadsKind}
 use Rattle.cryptogram.proofs.DataLaws.{data_length_lem}
 
 -- the code of 72 bytes comes with no refusal
-module _ (ks s : List ℕ) (e : length s ≡ 72) where
-  pub code_twice_with : (r : CodeAnswer) → r ≡ coded_with ks s → twice r.bytes ≡ double_code ks s
-  unfolding double_code
-  code_twice_with r w = ap (λ (a : CodeAnswer). twice a.bytes) (w ∙ sym (string_fits_lem ks s (λ z. omega arith) (omega arith)))
-
-pub code_twice : (key s : List ℕ) → length key ≡ 32 → length s ≡ 72 → (r : CodeAnswer) → r ≡ coded key s → twice r.bytes ≡ double_code (subkeys 8 key) s
-code_twice key s k e r w = code_twice_with (subkeys 8 key) s e r (w ∙ sym (code_key key s k))
+pub coded_string : (ks s : List ℕ) → length s ≡ 72 → coded_with ks s ≡ Ok (code_of ks s)
+coded_string ks s e = sym (string_fits_lem ks s (λ z. omega arith) (omega arith))
 
 -- a cryptogram and an ARPC are 8 bytes
 length_double : (ks s : List ℕ) → length (double_code ks s) ≡ 8
@@ -46,37 +39,40 @@ unfolding arpc_of
 length-arpc ks c u = length_double ks _
 
 module _ (key : List ℕ) (kind : Kind) (atc : ℕ) (d : List ℕ) where
-  pub no_key : (length key ≡ 32 → ⊥) → no_block 1 ≡ cryptogram_answer key kind atc d
+  pub no_key : (length key ≡ 32 → ⊥) → Err Input ≡ cryptogram_answer key kind atc d
   unfolding cryptogram_answer key_fits
   no_key h = simp (ne_eqb _ _ h)
 
-  pub no_data : (length d ≡ 65 → ⊥) → no_block 1 ≡ cryptogram_answer key kind atc d
+  pub no_data : (length d ≡ 65 → ⊥) → Err Input ≡ cryptogram_answer key kind atc d
   unfolding cryptogram_answer
   no_data h = simp (data_length_lem, ne_eqb _ _ h, and-false)
 
-  pub made : length key ≡ 32 → length d ≡ 65 → a_block (cryptogram_of (subkeys 8 key) kind atc d) ≡ cryptogram_answer key kind atc d
+  pub made : length key ≡ 32 → length d ≡ 65 → Ok (cryptogram_of (subkeys 8 key) kind atc d) ≡ cryptogram_answer key kind atc d
   unfolding cryptogram_answer key_fits
   made k e = simp (data_length_lem, eq-eqb _ _ k, eq-eqb _ _ e)
 
 module _ (key c u : List ℕ) where
-  pub arpc_no_key : (length key ≡ 32 → ⊥) → no_block 1 ≡ arpc_answer key c u
+  pub arpc_no_key : (length key ≡ 32 → ⊥) → Err Input ≡ arpc_answer key c u
   unfolding arpc_answer key_fits
   arpc_no_key h = simp (ne_eqb _ _ h)
 
-  pub arpc_no_cryptogram : (length c ≡ 8 → ⊥) → no_block 1 ≡ arpc_answer key c u
+  pub arpc_no_cryptogram : (length c ≡ 8 → ⊥) → Err Input ≡ arpc_answer key c u
   unfolding arpc_answer
   arpc_no_cryptogram h = simp (ne_eqb _ _ h, and-false)
 
-  pub arpc_no_csu : (length u ≡ 4 → ⊥) → no_block 1 ≡ arpc_answer key c u
+  pub arpc_no_csu : (length u ≡ 4 → ⊥) → Err Input ≡ arpc_answer key c u
   unfolding arpc_answer
   arpc_no_csu h = simp (ne_eqb _ _ h, and-false)
 
-  pub arpc_made : length key ≡ 32 → length c ≡ 8 → length u ≡ 4 → a_block (arpc_of (subkeys 8 key) c u) ≡ arpc_answer key c u
+  pub arpc_made : length key ≡ 32 → length c ≡ 8 → length u ≡ 4 → Ok (arpc_of (subkeys 8 key) c u) ≡ arpc_answer key c u
   unfolding arpc_answer key_fits
   arpc_made k e f = simp (eq-eqb _ _ k, eq-eqb _ _ e, eq-eqb _ _ f)
 
+pub same_arpc : {k k' g g' u u' : List ℕ} → k ≡ k' → g ≡ g' → u ≡ u' → arpc_of k g u ≡ arpc_of k' g' u'
+same_arpc e f h = cc
+
 -- the number of a kind is read back
-pub kind_read : (kind : Kind) → kind_of (kind_number kind) ≡ Known kind
+pub kind_read : (kind : Kind) → kind_of (kind_number kind) ≡ Some kind
 unfolding kind_of kind_number
 kind_read Arqc = refl
 kind_read Tc = refl
@@ -92,18 +88,18 @@ unfolding kind_code kind_of
 kind_refused n h = simp (ne_eqb _ _ (h Arqc), ne_eqb _ _ (h Tc), ne_eqb _ _ (h Aac))
 
 -- a number read as a kind
-pub reads_kind : {n : ℕ} {r : KindRead} → r ≡ kind_of n → ReadsKind r n
+pub reads_kind : {n : ℕ} {r : Option Kind} → r ≡ kind_of n → ReadsKind r n
 unfolding kind_of kind_number kind_code kind_values
 reads_kind {n} {r} e = record { is = e; its_number = ap kind_code e ∙ of_number (eqb n 0x80) (eqb n 0x40) (eqb n 0x00); its_values = ap kind_values e ∙ of_values (eqb n 0x80) (eqb n 0x40) (eqb n 0x00) refl refl refl }
   where
-    of_number : (a b c : Bool) → kind_code (cond a (Known Arqc) (cond b (Known Tc) (cond c (Known Aac) Unknown))) ≡ cond (a || (b || c)) 0 1
+    of_number : (a b c : Bool) → kind_code (cond a (Some Arqc) (cond b (Some Tc) (cond c (Some Aac) None))) ≡ cond (a || (b || c)) 0 1
     of_number true b c = refl
     of_number false true c = refl
     of_number false false true = refl
     of_number false false false = refl
 
     of_values : (a b c : Bool) → eqb n 0x80 ≡ a → eqb n 0x40 ≡ b → eqb n 0x00 ≡ c
-        → kind_values (cond a (Known Arqc) (cond b (Known Tc) (cond c (Known Aac) Unknown))) ≡ cond (a || (b || c)) (n ∷ []) []
+        → kind_values (cond a (Some Arqc) (cond b (Some Tc) (cond c (Some Aac) None))) ≡ cond (a || (b || c)) (n ∷ []) []
     of_values true b c ea eb ec = ap (λ (x : ℕ). x ∷ []) (sym (eqb-true n 0x80 ea))
     of_values false true c ea eb ec = ap (λ (x : ℕ). x ∷ []) (sym (eqb-true n 0x40 eb))
     of_values false false true ea eb ec = ap (λ (x : ℕ). x ∷ []) (sym (eqb-true n 0x00 ec))

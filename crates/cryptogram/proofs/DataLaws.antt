@@ -3,7 +3,8 @@ use mathlib.Core.Path.{◌≡◌, refl, sym, ap, ap₂, ◌∙◌}
 use mathlib.Core.List.{List, [], ◌∷◌, ◌++◌, map}
 use Prim.Native.Nat.{ℕ}
 use native.Mathlib.Omega.{arith}
-use lib.ListN.{length, get_or, set, replicate, get_or-append, length-set}
+use borrow.Rule.Slice.PartMut.{put_mid}
+use lib.ListN.{length, get_or, set, drop, replicate, get_or-append, length-set}
 use lib.Seq.{sets, set-append_left, get_or-set_other}
 use Rattle.octets.specs.Numbers.{be_octets, le_octets}
 use Rattle.octets.proofs.Parts.{elements, elements_all}
@@ -63,12 +64,16 @@ string_made kind atc d e c ec s es m em =
     ∙ inside d p e x y (marked kind (get_or d 36 0))
     ∙ ap (λ (t : List ℕ). set (set (set d 31 (get_or t 0 0)) 32 (get_or t 1 0)) 36 (marked kind (get_or d 36 0)) ++ p) ec
 
--- the string under an ARPC, element by element
-pub arpc_made : (c u : List ℕ) → length c ≡ 8 → length u ≡ 4
+-- the string under an ARPC, element by element, and its parts laid in one after the other
+arpc_made : (c u : List ℕ) → length c ≡ 8 → length u ≡ 4
     → (get_or c 0 0 ∷ get_or c 1 0 ∷ get_or c 2 0 ∷ get_or c 3 0 ∷ get_or c 4 0 ∷ get_or c 5 0 ∷ get_or c 6 0 ∷ get_or c 7 0 ∷ [])
     ++ (get_or u 0 0 ∷ get_or u 1 0 ∷ get_or u 2 0 ∷ get_or u 3 0 ∷ []) ++ replicate 4 0 ++ 0x80 ∷ replicate 55 0 ≡ arpc_string c u
 unfolding arpc_string
 arpc_made c u ec eu = ap₂ (λ (x y : List ℕ). x ++ y ++ replicate 4 0 ++ 0x80 ∷ replicate 55 0) (sym (elements_all c 8 ec)) (sym (elements_all u 4 eu))
+
+pub arpc_laid : (c u x y : List ℕ) → x ≡ c → y ≡ u → length c ≡ 8 → length u ≡ 4 → set (put_mid 8 4 (x ++ drop 8 (replicate 72 0)) y) 16 0x80 ≡ arpc_string c u
+arpc_laid c u x y ex ey ec eu =
+    ap₂ (λ (s t : List ℕ). set (put_mid 8 4 (s ++ drop 8 (replicate 72 0)) t) 16 0x80) (ex ∙ elements_all c 8 ec) (ey ∙ elements_all u 4 eu) ∙ arpc_made c u ec eu
 
 pub twice_made : (c : List ℕ) → length c ≡ 4
     → get_or c 0 0 ∷ get_or c 1 0 ∷ get_or c 2 0 ∷ get_or c 3 0 ∷ get_or c 0 0 ∷ get_or c 1 0 ∷ get_or c 2 0 ∷ get_or c 3 0 ∷ [] ≡ twice c

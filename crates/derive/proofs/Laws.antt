@@ -1,14 +1,19 @@
 -- A started key gives what the key gives; and what the entry points answer, test by test. Assumes nothing.
 use mathlib.Core.Path.{◌≡◌, refl, sym, ap, ap₂, ◌∙◌}
-use mathlib.Core.Bool.{cond}
+use mathlib.Core.Bool.{Bool, true, false, cond}
 use mathlib.Core.List.{List, [], ◌∷◌, ◌++◌, append-nil}
 use Prim.Native.Nat.{ℕ, suc, ◌+◌, ◌-◌, ◌*◌}
 use native.Mathlib.Omega.{arith}
-use borrow.Author.Tests.{eq-eqb, ne_eqb}
-use lib.Dec.{lit≤}
+use borrow.Author.Tests.{eq-eqb, ne_eqb, eqb-true, eqb-false}
+use lib.Dec.{lit≤, eqb}
 use lib.ListN.{length, take, drop, replicate, length-append, length-drop}
 use lib.Seq.{take_at, drop_at, take_all}
-use Rattle.answers.specs.Answers.{a_key, no_key}
+use Rattle.std.specs.Prelude.{Result, Ok, Err}
+use Rattle.std.specs.Result.{IsErrAnd}
+use Rattle.std.proofs.lemmas.Result.{err_from_is_err_and}
+use Rattle.answers.specs.declared.Refusal.{Refusal}
+use Rattle.answers.specs.declared.Refusal.TheVariants.{Input}
+use Rattle.answers.specs.Answers.{exactly}
 use Rattle.octets.proofs.Parts.{zeros, elements, elements_all}
 use Rattle.rounds.specs.Rounds.{constants}
 use Rattle.rounds.specs.Lent.{laid_words}
@@ -105,21 +110,37 @@ pub string_made : (label seed : List ℕ) → length label ≡ 4 → length seed
 unfolding string
 string_made label seed h l = ap₂ (λ (x y : List ℕ). 0x01 ∷ (x ++ 0x00 ∷ (y ++ 0x01 ∷ 0x00 ∷ []))) (sym (elements_all label 4 h)) (sym (elements_all seed 8 l))
 
+-- what is lent has the length asked for, or the caller's `?` answers 1
+pub exact : (n : ℕ) (l x : List ℕ) {r : Result (List ℕ) Refusal} → r ≡ exactly n l → r ≡ Ok x → (length l ≡ n) × (x ≡ l)
+exact n l x e f = go (eqb (length l) n) refl (sym f ∙ e)
+  where
+    go : (t : Bool) → eqb (length l) n ≡ t → Ok x ≡ cond {A = Result (List ℕ) Refusal} t (Ok l) (Err Input) → (length l ≡ n) × (x ≡ l)
+    go true f h = (eqb-true (length l) n f, cc)
+    go false f h = absurd cc
+
+pub not_exact : (n : ℕ) (l : List ℕ) (q : Refusal) {r : Result (List ℕ) Refusal} → r ≡ exactly n l → r ≡ Err q
+    → {B : Type 0} (s : Result B Refusal) → IsErrAnd s (λ e. e ≡ q) → (length l ≡ n → ⊥) × (s ≡ Err Input)
+not_exact n l q e f {B} s h = go (eqb (length l) n) refl (sym f ∙ e)
+  where
+    go : (t : Bool) → eqb (length l) n ≡ t → Err q ≡ cond {A = Result (List ℕ) Refusal} t (Ok l) (Err Input) → (length l ≡ n → ⊥) × (s ≡ Err Input)
+    go true f h = absurd cc
+    go false f i = (eqb-false (length l) n f, (let p = err_from_is_err_and s h in let k : q ≡ Input = cc in p.1 ∙ ap Err (p.2 ∙ k)))
+
 module _ (key m : List ℕ) where
-  pub hmac_no_key : (length key ≡ 32 → ⊥) → no_key 1 ≡ maced key m
+  pub hmac_no_key : (length key ≡ 32 → ⊥) → Err Input ≡ maced key m
   unfolding maced key_fits
   hmac_no_key h = simp (ne_eqb _ _ h)
 
-  pub hmac_fits : length key ≡ 32 → a_key (hmac key m) ≡ maced key m
+  pub hmac_fits : length key ≡ 32 → Ok (hmac key m) ≡ maced key m
   unfolding maced key_fits
   hmac_fits h = simp (eq-eqb _ _ h)
 
 module _ (key label seed : List ℕ) where
-  pub no_key_lem : (length key ≡ 32 → ⊥) → no_key 1 ≡ derivation key label seed
+  pub no_key_lem : (length key ≡ 32 → ⊥) → Err Input ≡ derivation key label seed
   unfolding derivation key_fits
   no_key_lem h = simp (ne_eqb _ _ h)
 
-  pub fits : length key ≡ 32 → a_key (derived key label seed) ≡ derivation key label seed
+  pub fits : length key ≡ 32 → Ok (derived key label seed) ≡ derivation key label seed
   unfolding derivation key_fits
   fits h = simp (eq-eqb _ _ h)
 
@@ -131,10 +152,10 @@ module _ (key label seed : List ℕ) where
   -- and under the kept key it is the same
   pub derivation_kept_lem : length key ≡ 32 → derivation_kept (kept_words key) label seed ≡ derivation key label seed
   unfolding derivation_kept kept_fits
-  derivation_kept_lem h = simp (eq-eqb _ _ (length-kept key)) (ap a_key (derived_kept_lem key label seed h) ∙ fits h)
+  derivation_kept_lem h = simp (eq-eqb _ _ (length-kept key)) (ap Ok (derived_kept_lem key label seed h) ∙ fits h)
 
 module _ (key seed : List ℕ) where
-  pub card_no_seed : (length seed ≡ 8 → ⊥) → no_key 1 ≡ card_derivation key seed
+  pub card_no_seed : (length seed ≡ 8 → ⊥) → Err Input ≡ card_derivation key seed
   unfolding card_derivation seed_fits
   card_no_seed h = simp (ne_eqb _ _ h)
 
@@ -143,11 +164,11 @@ module _ (key seed : List ℕ) where
   card_seed h = simp (eq-eqb _ _ h)
 
 module _ (ws label seed : List ℕ) where
-  pub kept_no_words : (length ws ≡ 256 → ⊥) → no_key 1 ≡ derivation_kept ws label seed
+  pub kept_no_words : (length ws ≡ 256 → ⊥) → Err Input ≡ derivation_kept ws label seed
   unfolding derivation_kept kept_fits
   kept_no_words h = simp (ne_eqb _ _ h)
 
-  pub kept_fits_lem : length ws ≡ 256 → a_key (derived_kept ws label seed) ≡ derivation_kept ws label seed
+  pub kept_fits_lem : length ws ≡ 256 → Ok (derived_kept ws label seed) ≡ derivation_kept ws label seed
   unfolding derivation_kept kept_fits
   kept_fits_lem h = simp (eq-eqb _ _ h)
 
@@ -177,21 +198,21 @@ module _ (ws label seed : List ℕ) where
 
     pub derivation_over_lem : derivation_over constants ws label seed ≡ derivation_kept ws label seed
     unfolding derivation_over derivation_kept
-    derivation_over_lem = ap (λ (x : List ℕ). cond (kept_fits ws) (a_key x) (no_key 1)) derived_over_lem
+    derivation_over_lem = ap (λ (x : List ℕ). cond (kept_fits ws) (Ok x) (Err Input)) derived_over_lem
 
 module _ (cs : List (List ℕ)) (ws label seed : List ℕ) where
-  pub over_no_words : (length ws ≡ 256 → ⊥) → no_key 1 ≡ derivation_over cs ws label seed
+  pub over_no_words : (length ws ≡ 256 → ⊥) → Err Input ≡ derivation_over cs ws label seed
   unfolding derivation_over kept_fits
   over_no_words h = simp (ne_eqb _ _ h)
 
   -- by the halves that the code lends
   pub over_lent : length ws ≡ 256 → (m x y : List ℕ) → m ≡ string label seed → x ≡ ended_block cs (take 128 ws) 128 (last_block m)
-      → y ≡ ended_block cs (take (length ws - 128) (drop 128 ws)) 256 (last_block x) → a_key y ≡ derivation_over cs ws label seed
+      → y ≡ ended_block cs (take (length ws - 128) (drop 128 ws)) 256 (last_block x) → Ok y ≡ derivation_over cs ws label seed
   unfolding derivation_over kept_fits derived_over
   over_lent h m x y d e f =
       let n : length (drop 128 ws) ≡ 128 = length-drop 128 ws ∙ omega arith in
       simp (eq-eqb _ _ h)
-      (ap a_key
+      (ap Ok
       (f
       ∙ ap₂ (λ (a b : List ℕ). ended_block cs a 256 (last_block b)) (take_all (length ws - 128) (drop 128 ws) (omega arith))
       (e ∙ ap (λ (s : List ℕ). ended_block cs (take 128 ws) 128 (last_block s)) d)))

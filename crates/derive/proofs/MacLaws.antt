@@ -1,5 +1,5 @@
 -- HMAC under way: a case of the cutting, and what its functions answer. Assumes nothing.
-use mathlib.Core.Path.{◌≡◌, refl, sym, ap, ap₂, subst, ◌∙◌}
+use mathlib.Core.Path.{◌≡◌, refl, sym, ap, ◌∙◌}
 use mathlib.Core.Bool.{Bool, true, false, cond}
 use mathlib.Core.List.{List, []}
 use Prim.Native.Nat.{ℕ, ◌+◌}
@@ -10,16 +10,19 @@ use Rattle.octets.specs.Lengths.{key_fits}
 use Rattle.blocks.specs.Parts.{fits, part_number, poured, counted, after, CutAnyWay}
 use Rattle.blocks.proofs.PartLaws.{Keeps, settled_poured, cut_any_way}
 use Rattle.hash.specs.declared.State.{State}
-use Rattle.hash.specs.declared.Fed.{Fed}
 use Rattle.hash.specs.States.{state_of, hash_way, begun, poured_into, fed, ended}
-use Rattle.hash.proofs.Laws.{hash_keeps, total_poured_into, ended_total}
+use Rattle.hash.proofs.Laws.{hash_keeps, total_poured_into, ended_total, told, left, cut_alike}
 use Rattle.derive.specs.declared.Started.{Started}
-use Rattle.derive.specs.declared.MacFed.{MacFed}
 use Rattle.derive.specs.Hmac.{ipad, opad, hmac}
 use Rattle.derive.specs.Started.{started, hmac_with}
-use Rattle.derive.specs.Answers.{key_of}
+use Rattle.std.specs.Prelude.{Result, Ok, Err}
+use Rattle.std.specs.Result.{IsErrAnd, result_unwrap_or}
+use Rattle.std.proofs.lemmas.Result.{err_from_is_err_and}
+use Rattle.answers.specs.declared.Refusal.{Refusal}
+use Rattle.answers.specs.declared.Refusal.TheVariants.{Input}
+use Rattle.answers.specs.Answers.{number_told}
 use Rattle.derive.specs.Macing.{mac_way, mac_begun, mac_fed, mac_ended}
-use Rattle.derive.proofs.Laws.{hmac_started, key_of_fits}
+use Rattle.derive.proofs.Laws.{hmac_started}
 
 mac_keeps : Keeps mac_way
 mac_keeps =
@@ -37,21 +40,35 @@ counted_inner : (s : Started) (m : List ℕ) → record { inner = counted hash_w
 unfolding counted poured
 counted_inner s m = refl
 
-after_inner : (s : Started) (m : List ℕ) → record { inner = after hash_way s.inner m; outer = s.outer } ≡ after mac_way s m
-unfolding after
-after_inner s m = by (fits s.inner.total (length m)) refl
-  where
-    by : (b : Bool) → fits s.inner.total (length m) ≡ b
-        → record { inner = cond b (counted hash_way s.inner m) s.inner; outer = s.outer } ≡ cond b (counted mac_way s m) s
-    by true e = counted_inner s m
-    by false e = refl
+pub fed_not : (s : Started) (m : List ℕ) → fits s.inner.total (length m) ≡ false → mac_fed s m ≡ Err Input
+unfolding mac_fed
+fed_not s m e = ap (λ (b : Bool). cond {A = Result Started Refusal} b (Ok (counted mac_way s m)) (Err Input)) e
 
-pub fed_inner : (s : Started) (m : List ℕ) (f : Fed) → f ≡ fed s.inner m
-    → record { code = f.code; state = record { inner = f.state; outer = s.outer } } ≡ mac_fed s m
-unfolding mac_fed fed
-fed_inner s m f e =
-    ap (λ (x : Fed). record { code = x.code; state = record { inner = x.state; outer = s.outer } }) e
-    ∙ ap (λ (x : Started). record { code = part_number s.inner.total m; state = x }) (after_inner s m)
+pub fed_on : (s : Started) (m : List ℕ) → fits s.inner.total (length m) ≡ true → mac_fed s m ≡ Ok (record { inner = counted hash_way s.inner m; outer = s.outer })
+unfolding mac_fed
+fed_on s m e = ap (λ (b : Bool). cond {A = Result Started Refusal} b (Ok (counted mac_way s m)) (Err Input)) e ∙ ap Ok (sym (counted_inner s m))
+
+-- by what the inner hash answered: fed, or the caller's `?`
+pub fed_inner : (s : Started) (m : List ℕ) (x : State) {r : Result State Refusal} → r ≡ fed s.inner m → r ≡ Ok x
+    → Ok (record { inner = x; outer = s.outer }) ≡ mac_fed s m
+unfolding fed
+fed_inner s m x e f = go (fits s.inner.total (length m)) refl (sym f ∙ e)
+  where
+    go : (t : Bool) → fits s.inner.total (length m) ≡ t → Ok x ≡ cond {A = Result State Refusal} t (Ok (counted hash_way s.inner m)) (Err Input)
+        → Ok (record { inner = x; outer = s.outer }) ≡ mac_fed s m
+    go true h i = let k : x ≡ counted hash_way s.inner m = cc in ap (λ (y : State). Ok (record { inner = y; outer = s.outer })) k ∙ sym (fed_on s m h)
+    go false h i = absurd cc
+
+pub fed_refused : (s : Started) (m : List ℕ) (q : Refusal) {r : Result State Refusal} → r ≡ fed s.inner m → r ≡ Err q
+    → (y : Result Started Refusal) → IsErrAnd y (λ e. e ≡ q) → y ≡ mac_fed s m
+unfolding fed
+fed_refused s m q e f y h = go (fits s.inner.total (length m)) refl (sym f ∙ e)
+  where
+    go : (t : Bool) → fits s.inner.total (length m) ≡ t → Err q ≡ cond {A = Result State Refusal} t (Ok (counted hash_way s.inner m)) (Err Input) → y ≡ mac_fed s m
+    go true g i = absurd cc
+    go false g i = let p = err_from_is_err_and y h in
+        let k : q ≡ Input = cc in
+        p.1 ∙ ap Err (p.2 ∙ k) ∙ sym (fed_not s m g)
 
 poured_total : (s : Started) (m : List ℕ) → ended (poured mac_way s m (s.inner.total + length m)).inner ≡ ended (poured_into s.inner m)
 unfolding poured_into poured
@@ -68,22 +85,17 @@ unfolding started begun state_of
 nothing_fed key = total_poured_into begun (ipad key)
 
 module _ (key : List ℕ) where
-  pub begun_not : (length key ≡ 32 → ⊥) → (a b : State) → a ≡ begun → b ≡ begun → record { code = 1; state = record { inner = a; outer = b } } ≡ mac_begun key
+  pub begun_not : (length key ≡ 32 → ⊥) → Err Input ≡ mac_begun key
   unfolding mac_begun key_fits
-  begun_not h a b ea eb = simp (ne_eqb _ _ h) (ap₂ (λ (x y : State). record { code = 1; state = record { inner = x; outer = y } }) ea eb)
+  begun_not h = simp (ne_eqb _ _ h)
 
-  pub begun_fits : length key ≡ 32 → (k : List ℕ) (s : Started) → k ≡ key_of key → s ≡ started k → record { code = 0; state = s } ≡ mac_begun key
+  pub begun_fits : length key ≡ 32 → Ok (started key) ≡ mac_begun key
   unfolding mac_begun key_fits
-  begun_fits h k s ek es =
-      simp (eq-eqb _ _ h) (ap (λ (x : Started). record { code = 0; state = x }) (es ∙ ap started (ek ∙ key_of_fits key h)))
+  begun_fits h = simp (eq-eqb _ _ h)
 
-  pub mac_begins : (mac_begun key).code ≡ cond (eqb (length key) 32) 0 1
+  pub mac_begins : number_told (mac_begun key) ≡ cond (eqb (length key) 32) 0 1
   unfolding mac_begun key_fits
-  mac_begins = by (eqb (length key) 32)
-    where
-      by : (b : Bool) → (cond {A = MacFed} b (record { code = 0; state = started key }) (record { code = 1; state = record { inner = begun; outer = begun } })).code ≡ cond {A = ℕ} b 0 1
-      by true = refl
-      by false = refl
+  mac_begins = told (started key) (eqb (length key) 32)
 
   -- the message fed at once
   ended_all : (m : List ℕ) → mac_ended (counted mac_way (started key) m) ≡ hmac key m
@@ -92,12 +104,13 @@ module _ (key : List ℕ) where
       let s : Started = started key in
       ap (λ (x : List ℕ). ended (poured_into s.outer x)) (poured_total s m) ∙ hmac_started key m
 
-  pub started_cut : CutAnyWay (started key) (λ s m. (mac_fed s m).code) (λ s m. (mac_fed s m).state) mac_ended (hmac key)
-  unfolding mac_fed
-  started_cut = cut_any_way mac_way mac_keeps (started key) mac_ended (hmac key) (settled key) (nothing_fed key) ended_all
+  pub started_cut : CutAnyWay (started key) (λ s m. number_told (mac_fed s m)) (λ s m. result_unwrap_or (mac_fed s m) s) mac_ended (hmac key)
+  unfolding mac_fed part_number after
+  started_cut =
+      cut_alike (λ s m. sym (told (counted mac_way s m) (fits s.inner.total (length m)))) (λ s m. sym (left (counted mac_way s m) s (fits s.inner.total (length m))))
+      (cut_any_way mac_way mac_keeps (started key) mac_ended (hmac key) (settled key) (nothing_fed key) ended_all)
 
-  -- Wish 5, for HMAC
-  pub mac_cut : length key ≡ 32 → CutAnyWay (mac_begun key).state (λ s m. (mac_fed s m).code) (λ s m. (mac_fed s m).state) mac_ended (hmac key)
-  mac_cut h =
-      subst (λ (s : Started). CutAnyWay s (λ x m. (mac_fed x m).code) (λ x m. (mac_fed x m).state) mac_ended (hmac key))
-      (ap (λ (f : MacFed). f.state) (begun_fits h key (started key) (sym (key_of_fits key h)) refl)) started_cut
+  -- Wish 5, for HMAC: a key of 32 bytes begins a state of which parts cut any way give the answer of the whole
+  pub mac_cut : length key ≡ 32
+      → (s : Started) × (mac_begun key ≡ Ok s) × CutAnyWay s (λ x m. number_told (mac_fed x m)) (λ x m. result_unwrap_or (mac_fed x m) x) mac_ended (hmac key)
+  mac_cut h = (started key, sym (begun_fits h), started_cut)

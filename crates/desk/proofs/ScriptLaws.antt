@@ -2,25 +2,28 @@
 use Prim.Native.Nat.{ℕ, ◌+◌, ◌-◌, ◌≤◌, ◌<◌}
 use native.Mathlib.Omega.{arith}
 use mathlib.Core.Path.{◌≡◌, refl, sym, ap, ap₂, ◌∙◌}
+use mathlib.Core.Logic.{◌⊎◌, inl, inr}
 use mathlib.Core.Bool.{Bool, true, false, not, cond}
 use mathlib.Core.List.{List, [], ◌++◌}
 use lib.Dec.{eqb}
 use lib.ListN.{length, length-append}
-use borrow.Author.Tests.{eq-eqb, ne_eqb, eqb-false, le-leb, lt-leb, not-true, not-false}
+use borrow.Rule.Slice.PartMut.{put_mid}
+use borrow.Author.Tests.{eq-eqb, ne_eqb, le-leb, lt-leb, not-true, not-false}
+use Rattle.std.specs.Prelude.{Result, Ok, Err}
 use Rattle.answers.specs.declared.Refusal.{Refusal}
 use Rattle.answers.specs.declared.Refusal.TheVariants.{Input, CardNumber, PinDigits, UnknownCard}
-use Rattle.answers.specs.declared.BlockAnswer.{BlockAnswer}
+use Rattle.answers.specs.Refusals.{number}
+use Rattle.answers.specs.Answers.{number_told}
 use Rattle.octets.specs.Laid.{laid}
 use Rattle.octets.proofs.LaidLaws.{length-laid, laid_laid}
 use Rattle.gost.specs.Gost.{encipher}
+use Rattle.gost.proofs.Inverse.{length-encipher}
 use Rattle.keys.specs.CardNumber.{card_fits}
 use Rattle.pin.specs.PinBlock.{pin_fits, pin_block}
 use Rattle.pin.specs.Answers.{encipher_pin}
 use Rattle.pin.proofs.AnswerLaws.{encipher-is, encipher_not}
 use Rattle.shapes.specs.declared.command.Command.{Command}
 use Rattle.shapes.specs.declared.command.Command.TheVariants.{SetPin, SetMark, ClearMark}
-use Rattle.shapes.specs.declared.command.Listed.{Listed}
-use Rattle.shapes.specs.declared.command.Listed.TheVariants.{One, Unlisted}
 use Rattle.shapes.specs.Shape.{place_of}
 use Rattle.shapes.specs.Command.{header_of, tag_for}
 use Rattle.shapes.proofs.LengthLaws.{largest_is}
@@ -31,38 +34,38 @@ use Rattle.message.proofs.CodeLaws.{given_so}
 use Rattle.message.proofs.Return.{message_size, wraps_there}
 use Rattle.table.specs.declared.CardId.{CardId}
 use Rattle.table.specs.Table.{held}
+use Rattle.message.proofs.WrapLaws.{copied}
 use Rattle.desk.specs.declared.Desk.{Desk}
 use Rattle.desk.specs.Desk.{id_of}
 use Rattle.desk.specs.Wrap.{ordered, script_of, pin_good, carried, script, unwritten, writes, wraps_command, wraps_order, wraps_listed, wraps}
 
 -- the command of an instruction
-pub order_pin : (n : ℕ) → n ≡ 0x24 → One SetPin ≡ ordered n
+pub order_pin : (n : ℕ) → n ≡ 0x24 → Ok SetPin ≡ ordered n
 unfolding ordered
 order_pin n h = simp (eq-eqb _ _ h)
 
 module _ (n : ℕ) (h : n ≡ 0x24 → ⊥) where
-  pub order_block : n ≡ 0x1e → One SetMark ≡ ordered n
+  pub order_block : n ≡ 0x1e → Ok SetMark ≡ ordered n
   unfolding ordered
   order_block e = simp (ne_eqb _ _ h, eq-eqb _ _ e)
 
   module _ (k : n ≡ 0x1e → ⊥) where
-    pub order_unblock : n ≡ 0x18 → One ClearMark ≡ ordered n
+    pub order_unblock : n ≡ 0x18 → Ok ClearMark ≡ ordered n
     unfolding ordered
     order_unblock e = simp (ne_eqb _ _ h, ne_eqb _ _ k, eq-eqb _ _ e)
 
-    pub order_none : (n ≡ 0x18 → ⊥) → Unlisted Input ≡ ordered n
+    pub order_none : (n ≡ 0x18 → ⊥) → Err Input ≡ ordered n
     unfolding ordered
     order_none l = simp (ne_eqb _ _ h, ne_eqb _ _ k, ne_eqb _ _ l)
 
--- an order that is none is 1
-pub none_ordered : (n : ℕ) (q : Refusal) → ordered n ≡ Unlisted q → q ≡ Input
+pub none_ordered : (n : ℕ) (q : Refusal) → ordered n ≡ Err q → q ≡ Input
 unfolding ordered
 none_ordered n q e = go (eqb n 0x24) (eqb n 0x1e) (eqb n 0x18) e
   where
-    go : (a b c : Bool) → cond a (One SetPin) (cond b (One SetMark) (cond c (One ClearMark) (Unlisted Input))) ≡ Unlisted q → q ≡ Input
-    go true b c w = let z : ◌≡◌ {A = ℕ} 0 1 = cc in absurd (omega arith)
-    go false true c w = let z : ◌≡◌ {A = ℕ} 0 1 = cc in absurd (omega arith)
-    go false false true w = let z : ◌≡◌ {A = ℕ} 0 1 = cc in absurd (omega arith)
+    go : (a b c : Bool) → cond {A = Result Command Refusal} a (Ok SetPin) (cond b (Ok SetMark) (cond c (Ok ClearMark) (Err Input))) ≡ Err q → q ≡ Input
+    go true b c w = absurd (cc)
+    go false true c w = absurd (cc)
+    go false false true w = absurd (cc)
     go false false false w = cc
 
 -- one outcome for another
@@ -79,6 +82,10 @@ module _ (s b : List ℕ) (place : ℕ) where
   unfolding writes
   writes_so h = simp (le-leb _ _ h)
 
+-- a header copied
+pub header_laid : (b : List ℕ) (p : ℕ) (y h : List ℕ) → y ≡ h → length h ≡ 4 → put_mid p (p + 4 - p) b y ≡ laid b p h
+header_laid b p y h e n = copied b p (p + 4 - p) h y e (omega (arith, n))
+
 -- header and message
 module _ (c : Command) (smi d b : List ℕ) (place : ℕ) where
   pub length-script : length (script c smi d) ≡ 4 + (place_of (length d) + length d + 6)
@@ -86,11 +93,9 @@ module _ (c : Command) (smi d b : List ℕ) (place : ℕ) where
   length-script = length-append (header_of c) _ ∙ ap₂ (λ (x y : ℕ). x + y) (header_four c) (message_size smi (header_of c) (tag_for c) d)
 
   module _ (p : ℕ) (e : p ≡ place_of (length d)) where
-    pub script_past : length b < place → Wrote (writes (script c smi d) b place) 3 b
-    script_past h = writes_not (script c smi d) b place (omega arith)
-
-    pub script_short : place ≤ length b → length b - place < 10 + length d + p → Wrote (writes (script c smi d) b place) 3 b
-    script_short h l = writes_not (script c smi d) b place (omega (arith, length-script))
+    pub script_none : (length b < place) ⊎ (length b - place < 10 + length d + p) → Wrote (writes (script c smi d) b place) 3 b
+    script_none (inl h) = writes_not (script c smi d) b place (omega arith)
+    script_none (inr h) = writes_not (script c smi d) b place (omega (arith, length-script))
 
     pub script_fits : place ≤ length b → 10 + length d + p ≤ length b - place → place + length (script c smi d) ≤ length b
     script_fits h l = omega (arith, length-script)
@@ -120,55 +125,79 @@ module _ (c : Command) (smi d b : List ℕ) (place : ℕ) where
           r x w
 
 -- a PIN
-pub eight_fits : (s : List ℕ) → length s ≡ 8 → length s ≤ 255
-eight_fits s h = omega arith
-
-module _ (smi smc pin b : List ℕ) (place : ℕ) (k : length smc ≡ 32) (e : BlockAnswer) (f : e ≡ encipher_pin smc pin) where
-  pub pin_not : (e.code ≡ 0 → ⊥) → Wrote (wraps_command SetPin smi smc pin b place) 12 b
+module _ (smi smc pin b : List ℕ) (place : ℕ) (k : length smc ≡ 32) (e : Result (List ℕ) Refusal) (f : e ≡ encipher_pin smc pin) where
+  pub pin_not : (number_told e ≡ 0 → ⊥) → Wrote (wraps_command SetPin smi smc pin b place) 12 b
   unfolding wraps_command pin_good
   pin_not h = go (pin_fits 0 (length pin) pin) refl
     where
       go : (t : Bool) → pin_fits 0 (length pin) pin ≡ t → Wrote (cond t (writes (script SetPin smi (carried SetPin smc pin)) b place) (unwritten b PinDigits)) 12 b
-      go true w = absurd (h (ap (λ (x : BlockAnswer). x.code) (f ∙ encipher-is smc pin k w)))
+      go true w = absurd (h (ap number_told (f ∙ encipher-is smc pin k w)))
       go false w = record { code = refl; buffer = refl }
 
-  pub pin_so : e.code ≡ 0 → writes (script SetPin smi e.bytes) b place ≡ wraps_command SetPin smi smc pin b place
-  unfolding wraps_command pin_good carried
-  pin_so h = go (pin_fits 0 (length pin) pin) refl
+  pub pin_refused : (q : Refusal) → e ≡ Err q → Wrote (wraps_command SetPin smi smc pin b place) (number q) b
+  unfolding wraps_command pin_good
+  pin_refused q h = go (pin_fits 0 (length pin) pin) refl
     where
-      go : (t : Bool) → pin_fits 0 (length pin) pin ≡ t
-          → writes (script SetPin smi e.bytes) b place ≡ cond t (writes (script SetPin smi (encipher smc (pin_block pin))) b place) (unwritten b PinDigits)
-      go true w = ap (λ (x : BlockAnswer). writes (script SetPin smi x.bytes) b place) (f ∙ encipher-is smc pin k w)
-      go false w = absurd (eqb-false 12 0 refl (sym (ap (λ (x : BlockAnswer). x.code) (f ∙ encipher_not smc pin k w)) ∙ h))
+      go : (t : Bool) → pin_fits 0 (length pin) pin ≡ t → Wrote (cond t (writes (script SetPin smi (carried SetPin smc pin)) b place) (unwritten b PinDigits)) (number q) b
+      go true w = let z : Err q ≡ Ok (encipher smc (pin_block pin)) = sym h ∙ f ∙ encipher-is smc pin k w in absurd (cc)
+      go false w =
+          let z : ◌≡◌ {A = Result (List ℕ) Refusal} (Err q) (Err PinDigits) = sym h ∙ f ∙ encipher_not smc pin k w in
+          let y : q ≡ PinDigits = cc in
+          record { code = ap number y; buffer = refl }
 
-  pub pin_written : e.code ≡ 0 → (r : ℕ) (x : List ℕ) → Wrote (writes (script SetPin smi e.bytes) b place) r x → Wrote (wraps_command SetPin smi smc pin b place) r x
-  pin_written h r x w = for_it (pin_so h) r x w
+  module _ (x : List ℕ) (h : e ≡ Ok x) where
+    pub pin_eight : length x ≤ 255
+    pin_eight = go (pin_fits 0 (length pin) pin) refl
+      where
+        go : (t : Bool) → pin_fits 0 (length pin) pin ≡ t → length x ≤ 255
+        go true w = let z : Ok x ≡ Ok (encipher smc (pin_block pin)) = sym h ∙ f ∙ encipher-is smc pin k w in let y : x ≡ encipher smc (pin_block pin) = cc in omega (arith, ap length y, length-encipher smc (pin_block pin))
+        go false w = let z : Ok x ≡ Err PinDigits = sym h ∙ f ∙ encipher_not smc pin k w in absurd (cc)
+
+    pub pin_so : writes (script SetPin smi x) b place ≡ wraps_command SetPin smi smc pin b place
+    unfolding wraps_command pin_good carried
+    pin_so = go (pin_fits 0 (length pin) pin) refl
+      where
+        go : (t : Bool) → pin_fits 0 (length pin) pin ≡ t
+            → writes (script SetPin smi x) b place ≡ cond t (writes (script SetPin smi (encipher smc (pin_block pin))) b place) (unwritten b PinDigits)
+        go true w =
+            let z : Ok x ≡ Ok (encipher smc (pin_block pin)) = sym h ∙ f ∙ encipher-is smc pin k w in
+            let y : x ≡ encipher smc (pin_block pin) = cc in
+            ap (λ (s : List ℕ). writes (script SetPin smi s) b place) y
+        go false w = let z : Ok x ≡ Err PinDigits = sym h ∙ f ∙ encipher_not smc pin k w in absurd (cc)
+
+    pub pin_written : (r : ℕ) (y : List ℕ) → Wrote (writes (script SetPin smi x) b place) r y → Wrote (wraps_command SetPin smi smc pin b place) r y
+    pin_written r y w = for_it pin_so r y w
 
 -- a mark carries nothing
-module _ (smi smc pin b : List ℕ) (place : ℕ) (r : ℕ) (x : List ℕ) where
-  pub block_written : Wrote (writes (script SetMark smi []) b place) r x → Wrote (wraps_command SetMark smi smc pin b place) r x
-  unfolding wraps_command pin_good carried
-  block_written w = w
-
-  pub unblock_written : Wrote (writes (script ClearMark smi []) b place) r x → Wrote (wraps_command ClearMark smi smc pin b place) r x
-  unfolding wraps_command pin_good carried
-  unblock_written w = w
+pub mark_written : (c : Command) → (c ≡ SetMark) ⊎ (c ≡ ClearMark) → (smi smc pin b : List ℕ) (place r : ℕ) (x : List ℕ) → Wrote (writes (script c smi []) b place) r x
+    → Wrote (wraps_command c smi smc pin b place) r x
+unfolding wraps_command pin_good carried
+mark_written SetPin (inl h) smi smc pin b place r x w = absurd (cc)
+mark_written SetPin (inr h) smi smc pin b place r x w = absurd (cc)
+mark_written SetMark h smi smc pin b place r x w = w
+mark_written ClearMark h smi smc pin b place r x w = w
 
 pub of_command : (c k : Command) → c ≡ k → (smi smc pin b : List ℕ) (place r : ℕ) (x : List ℕ) → Wrote (wraps_command k smi smc pin b place) r x → Wrote (wraps_command c smi smc pin b place) r x
 of_command c k e smi smc pin b place r x w = for_it (ap (λ (y : Command). wraps_command y smi smc pin b place) (sym e)) r x w
 
 -- the whole call
 module _ (d : Desk) (pan : List ℕ) (q i : ℕ) (g pin b : List ℕ) (place : ℕ) where
-  pub wrap_none : (l : Listed) → l ≡ ordered i → (w : Refusal) → l ≡ Unlisted w → Wrote (wraps d pan q i g pin b place) 1 b
+  pub wrap_none : (l : Result Command Refusal) → l ≡ ordered i → (w : Refusal) → l ≡ Err w → Wrote (wraps d pan q i g pin b place) 1 b
   unfolding wraps
   wrap_none l e w f =
-      for_it (ap (λ (y : Listed). wraps_listed d pan q y g pin b place) (ap {B = Listed} Unlisted (sym (none_ordered i w (sym e ∙ f))) ∙ sym f ∙ e)) 1 b (record { code = refl; buffer = refl })
+      for_it (ap (λ (y : Result Command Refusal). wraps_listed d pan q y g pin b place) (ap {B = Result Command Refusal} Err (sym (none_ordered i w (sym e ∙ f))) ∙ sym f ∙ e)) 1 b
+      (record { code = refl; buffer = refl })
 
-  module _ (l : Listed) (e : l ≡ ordered i) (c : Command) (f : l ≡ One c) where
+  pub wrap_unordered : (l : Result Command Refusal) → l ≡ ordered i → (w : Refusal) → l ≡ Err w → Wrote (wraps d pan q i g pin b place) (number w) b
+  unfolding wraps
+  wrap_unordered l e w f =
+      for_it (ap (λ (y : Result Command Refusal). wraps_listed d pan q y g pin b place) (sym f ∙ e)) (number w) b (record { code = refl; buffer = refl })
+
+  module _ (l : Result Command Refusal) (e : l ≡ ordered i) (c : Command) (f : l ≡ Ok c) where
     by_order : (eight : Bool) → eqb (length g) 8 ≡ eight → wraps d pan q i g pin b place ≡ cond eight (wraps_order d pan q c g pin b place) (unwritten b Input)
     unfolding wraps
     by_order eight h =
-        ap (λ (y : Listed). wraps_listed d pan q y g pin b place) (sym e ∙ f) ∙ ap (λ (y : Bool). cond y (wraps_order d pan q c g pin b place) (unwritten b Input)) h
+        ap (λ (y : Result Command Refusal). wraps_listed d pan q y g pin b place) (sym e ∙ f) ∙ ap (λ (y : Bool). cond y (wraps_order d pan q c g pin b place) (unwritten b Input)) h
 
     pub wrap_length : (length g ≡ 8 → ⊥) → Wrote (wraps d pan q i g pin b place) 1 b
     wrap_length h = for_it (sym (by_order false (ne_eqb _ _ h))) 1 b (record { code = refl; buffer = refl })

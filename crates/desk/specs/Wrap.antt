@@ -1,6 +1,6 @@
 -- Wrapping a command (Wish 7: "wraps PIN, block and unblock commands under the cryptogram that the caller names"; "wrapping 2, 19, 12, 3"; "a wrong length or kind
 -- of command is 1 ahead of all"). At the named place the 4 bytes of the header, and then the message. Assumes nothing.
-use Rattle.std.specs.Prelude.{ℕ, ◌+◌, Bool, true, cond, List, [], ◌++◌, eqb, leb, length}
+use Rattle.std.specs.Prelude.{ℕ, ◌+◌, Bool, true, cond, List, [], ◌++◌, eqb, leb, length, Result, Ok, Err}
 use Rattle.answers.specs.declared.Refusal.{Refusal}
 use Rattle.answers.specs.declared.Refusal.TheVariants.{Input, CardNumber, NoRoom, PinDigits, UnknownCard}
 use Rattle.answers.specs.Refusals.{number}
@@ -11,8 +11,6 @@ use Rattle.keys.specs.CardNumber.{card_fits}
 use Rattle.pin.specs.PinBlock.{pin_fits, pin_block}
 use Rattle.shapes.specs.declared.command.Command.{Command}
 use Rattle.shapes.specs.declared.command.Command.TheVariants.{SetPin, SetMark, ClearMark}
-use Rattle.shapes.specs.declared.command.Listed.{Listed}
-use Rattle.shapes.specs.declared.command.Listed.TheVariants.{One, Unlisted}
 use Rattle.shapes.specs.Command.{header_of, tag_for}
 use Rattle.message.specs.Code.{message}
 use Rattle.message.specs.Answers.{Written}
@@ -21,8 +19,8 @@ use Rattle.desk.specs.declared.Desk.{Desk}
 use Rattle.desk.specs.Desk.{id_of, master_key}
 
 -- the command of an instruction byte; another than the three is 1
-unfoldable pub ordered : ℕ → Listed
-ordered n = cond (eqb n 0x24) (One SetPin) (cond (eqb n 0x1e) (One SetMark) (cond (eqb n 0x18) (One ClearMark) (Unlisted Input)))
+unfoldable pub ordered : ℕ → Result Command Refusal
+ordered n = cond (eqb n 0x24) (Ok SetPin) (cond (eqb n 0x1e) (Ok SetMark) (cond (eqb n 0x18) (Ok ClearMark) (Err Input)))
 
 -- a card's session key for scripts
 unfoldable pub script_of : Bool → List ℕ → List ℕ → ℕ → List ℕ → List ℕ
@@ -65,9 +63,9 @@ wraps_order d pan sequence c cryptogram pin b place =
     (unwritten b CardNumber)
 
 -- 1 for the kind of command and for the cryptogram
-abbrev pub wraps_listed : Desk → List ℕ → ℕ → Listed → List ℕ → List ℕ → List ℕ → ℕ → Written
-wraps_listed d pan sequence (One c) cryptogram pin b place = cond (eqb (length cryptogram) 8) (wraps_order d pan sequence c cryptogram pin b place) (unwritten b Input)
-wraps_listed d pan sequence (Unlisted q) cryptogram pin b place = unwritten b q
+abbrev pub wraps_listed : Desk → List ℕ → ℕ → Result Command Refusal → List ℕ → List ℕ → List ℕ → ℕ → Written
+wraps_listed d pan sequence (Ok c) cryptogram pin b place = cond (eqb (length cryptogram) 8) (wraps_order d pan sequence c cryptogram pin b place) (unwritten b Input)
+wraps_listed d pan sequence (Err q) cryptogram pin b place = unwritten b q
 
 unfoldable pub wraps : Desk → List ℕ → ℕ → ℕ → List ℕ → List ℕ → List ℕ → ℕ → Written
 wraps d pan sequence instruction cryptogram pin b place = wraps_listed d pan sequence (ordered instruction) cryptogram pin b place

@@ -6,8 +6,9 @@ mod script;
 
 ghost use Rattle.std.specs.Prelude.{◌≡◌, true, ◌≤◌, length};
 ghost use Rattle.keys.specs.CardNumber.{card_fits};
-ghost use Rattle.desk.specs.Desk.{id_of, master_key, told, adds, forgets};
-ghost use Rattle.desk.specs.Check.{unchecked, counter_in, session_of, above_last, checks, checks_known, checks_right};
+ghost use Rattle.answers.specs.Answers.{number_told};
+ghost use Rattle.desk.specs.Desk.{id_of, master_key, adds, forgets};
+ghost use Rattle.desk.specs.Check.{counter_in, session_of, above_last, checks, checks_known, checks_right};
 ghost use Rattle.desk.specs.Wrap.{script_of, wraps};
 ghost use Rattle.message.specs.Answers.{Wrote};
 ghost use Rattle.gost.specs.Gost.{subkeys};
@@ -16,7 +17,6 @@ ghost use Rattle.cryptogram.specs.Cryptogram.{cryptogram_of};
 
 use answers::Refusal;
 use cryptogram::Kind;
-use message::Listed;
 use table::{CardId, Entry};
 
 #[derive(Clone, Copy)]
@@ -30,18 +30,10 @@ pub struct Desk {
     pub places: [Entry; 64],
 }
 
-// The desk after an adding or a forgetting, and its number.
-#[derive(Clone, Copy)]
-pub struct Told {
-    pub desk: Desk,
-    pub code: u8,
-}
-
-// The desk after a checking, its number, and the ARPC; zeros where it is refused.
+// The desk after a checking, and the ARPC.
 #[derive(Clone, Copy)]
 pub struct Checked {
     pub desk: Desk,
-    pub code: u8,
     pub arpc: [u8; 8],
 }
 
@@ -51,53 +43,34 @@ fn id_of(pan: &[u8], sequence: u8) -> CardId
     ensures { result ≡ id_of pan.now sequence }
 {
     let mut digits = [0; 19];
-    let n = pan.len();
-    let mut i = 0;
-    while i < n {
-        digits[i] = pan[i];
-        i += 1;
-    }
+    digits[..pan.len()].copy_from_slice(pan);
     CardId {
         digits,
-        count: n as u8,
+        count: pan.len() as u8,
         sequence,
     }
 }
 
-fn say(desk: Desk, code: u8) -> Told
-    ensures { result ≡ told desk code }
-{
-    Told { desk, code }
-}
-
-// Adds a card: 2, 20, 21.
-pub fn add(mut d: Desk, pan: &[u8], sequence: u8) -> Told
+// The desk after an adding: 2, 20, 21.
+pub fn add(d: Desk, pan: &[u8], sequence: u8) -> Result<Desk, Refusal>
     ensures { result ≡ adds d pan.now sequence }
 {
     if !keys::card_fits(pan, sequence) {
-        return say(d, Refusal::CARD_NUMBER);
+        return Err(Refusal::CardNumber);
     }
-    let c = id_of(pan, sequence);
-    let t = d.places;
-    let r = table::add(t, c);
-    let p = r.places;
-    d.places = p;
-    say(d, r.code)
+    let places = table::add(d.places, id_of(pan, sequence))?;
+    Ok(Desk { places, ..d })
 }
 
-// Forgets a card: 2, 19.
-pub fn forget(mut d: Desk, pan: &[u8], sequence: u8) -> Told
+// The desk after a forgetting: 2, 19.
+pub fn forget(d: Desk, pan: &[u8], sequence: u8) -> Result<Desk, Refusal>
     ensures { result ≡ forgets d pan.now sequence }
 {
     if !keys::card_fits(pan, sequence) {
-        return say(d, Refusal::CARD_NUMBER);
+        return Err(Refusal::CardNumber);
     }
-    let c = id_of(pan, sequence);
-    let t = d.places;
-    let r = table::forget(t, c);
-    let p = r.places;
-    d.places = p;
-    say(d, r.code)
+    let places = table::forget(d.places, id_of(pan, sequence))?;
+    Ok(Desk { places, ..d })
 }
 
 // A card's master key, from the issuer's.
@@ -106,11 +79,10 @@ fn master_key(packed: bool, issuer: [u8; 32], pan: &[u8], sequence: u8) -> [u8; 
     ensures { result ≡ master_key packed issuer pan.now sequence }
 {
     if packed {
-        let r = keys::card_key_packed(&issuer, pan, sequence);
-        return r.bytes;
+        keys::card_key_packed(&issuer, pan, sequence).unwrap()
+    } else {
+        keys::card_key(&issuer, pan, sequence).unwrap()
     }
-    let r = keys::card_key(&issuer, pan, sequence);
-    r.bytes
 }
 
 // The counter in the data sent.
@@ -126,59 +98,39 @@ fn session_of(d: Desk, pan: &[u8], sequence: u8, counter: u16) -> [u8; 32]
     requires { card_fits pan.now sequence ≡ true }
     ensures { result ≡ session_of d pan.now sequence counter }
 {
-    let issuer = d.ac;
-    let m = master_key(d.packed, issuer, pan, sequence);
-    let r = keys::session_key(&m, counter);
-    r.bytes
-}
-
-fn refuse(desk: Desk, code: u8) -> Checked
-    ensures { result ≡ unchecked desk code }
-{
-    Checked {
-        desk,
-        code,
-        arpc: [0; 8],
-    }
+    let m = master_key(d.packed, d.ac, pan, sequence);
+    keys::session_key(&m, counter).unwrap()
 }
 
 // Whether a counter is above the last one of a card, if it has one.
 fn above_last(places: [Entry; 64], c: CardId, counter: u16) -> bool
     ensures { result ≡ above_last places c counter }
 {
-    let l = table::last_of(places, c);
-    if !l.known {
-        return true;
+    match table::last_of(places, c) {
+        Ok(Some(last)) => last < counter,
+        _ => true,
     }
-    l.last < counter
 }
 
 // A right ARQC of a held card: 23, or the counter is kept and the ARPC given.
 fn check_right(
-    mut d: Desk,
+    d: Desk,
     c: CardId,
     key: [u8; 32],
     counter: u16,
     arqc: &[u8],
     csu: &[u8],
-) -> Checked
+) -> Result<Checked, Refusal>
     requires { (length arqc.now ≡ 8) × (length csu.now ≡ 4) }
     ensures { result ≡ checks_right d c key counter arqc.now csu.now }
 {
-    let t = d.places;
-    if !above_last(t, c, counter) {
-        return refuse(d, Refusal::COUNTER_NOT_ABOVE);
+    if !above_last(d.places, c, counter) {
+        return Err(Refusal::CounterNotAbove);
     }
-    let k = table::keep(t, c, counter);
-    let p = k.places;
-    d.places = p;
-    let a = cryptogram::arpc(&key, arqc, csu);
-    let arpc = a.bytes;
-    Checked {
-        desk: d,
-        code: 0,
-        arpc,
-    }
+    let places = table::keep(d.places, c, counter)?;
+    let desk = Desk { places, ..d };
+    let arpc = cryptogram::arpc(&key, arqc, csu).unwrap();
+    Ok(Checked { desk, arpc })
 }
 
 // 01's ARQC for the data and a counter, under a session key.
@@ -186,9 +138,7 @@ fn arqc_of(key: [u8; 32], counter: u16, data: &[u8]) -> [u8; 8]
     requires { length «data».now ≡ 65 }
     ensures { result ≡ cryptogram_of (subkeys 8 key) Arqc counter «data».now }
 {
-    let kind = Kind::Arqc;
-    let g = cryptogram::cryptogram(&key, kind, counter, data);
-    g.bytes
+    cryptogram::cryptogram(&key, Kind::Arqc, counter, data).unwrap()
 }
 
 // A held card's check: 22, 23.
@@ -200,37 +150,37 @@ fn check_known(
     data: &[u8],
     arqc: &[u8],
     csu: &[u8],
-) -> Checked
+) -> Result<Checked, Refusal>
     requires { (length «data».now ≡ 65) × (length arqc.now ≡ 8) × (length csu.now ≡ 4) }
     ensures { result ≡ checks_known d c key counter «data».now arqc.now csu.now }
 {
     let own = arqc_of(key, counter, data);
     if !octets::same(&own, arqc) {
-        return refuse(d, Refusal::ARQC_DIFFERS);
+        return Err(Refusal::ArqcDiffers);
     }
     check_right(d, c, key, counter, arqc, csu)
 }
 
 // Checks an ARQC over the data sent, and gives the ARPC for a CSU: 1, 2, 19, 22, 23.
-pub fn check(d: Desk, pan: &[u8], sequence: u8, data: &[u8], arqc: &[u8], csu: &[u8]) -> Checked
+pub fn check(
+    d: Desk,
+    pan: &[u8],
+    sequence: u8,
+    data: &[u8],
+    arqc: &[u8],
+    csu: &[u8],
+) -> Result<Checked, Refusal>
     ensures { result ≡ checks d pan.now sequence «data».now arqc.now csu.now }
 {
-    if data.len() != 65 {
-        return refuse(d, Refusal::INPUT);
-    }
-    if arqc.len() != 8 {
-        return refuse(d, Refusal::INPUT);
-    }
-    if csu.len() != 4 {
-        return refuse(d, Refusal::INPUT);
+    if data.len() != 65 || arqc.len() != 8 || csu.len() != 4 {
+        return Err(Refusal::Input);
     }
     if !keys::card_fits(pan, sequence) {
-        return refuse(d, Refusal::CARD_NUMBER);
+        return Err(Refusal::CardNumber);
     }
     let c = id_of(pan, sequence);
-    let t = d.places;
-    if !table::is_held(t, c) {
-        return refuse(d, Refusal::UNKNOWN_CARD);
+    if !table::is_held(d.places, c) {
+        return Err(Refusal::UnknownCard);
     }
     let counter = counter_in(data);
     let key = session_of(d, pan, sequence, counter);
@@ -249,11 +199,10 @@ fn script_of(
     ensures { result ≡ script_of packed issuer pan.now sequence cryptogram.now }
 {
     let m = master_key(packed, issuer, pan, sequence);
-    let r = keys::script_key(&m, cryptogram);
-    r.bytes
+    keys::script_key(&m, cryptogram).unwrap()
 }
 
-// Writes header and message of a command for a held card at a place of the buffer, and answers 0; or 1, 2, 19, 12 or 3, and writes nothing. The
+// Writes header and message of a command for a held card at a place of the buffer; or refuses by 1, 2, 19, 12 or 3, and writes nothing. The
 // instruction is the command's; a PIN is looked at where it sets one.
 pub fn wrap(
     d: Desk,
@@ -264,26 +213,21 @@ pub fn wrap(
     pin: &[u8],
     buffer: &mut [u8],
     place: usize,
-) -> u8
-    ensures { Wrote (wraps d pan.now sequence instruction cryptogram.now pin.now buffer.old place) result buffer.new }
+) -> Result<(), Refusal>
+    ensures { Wrote (wraps d pan.now sequence instruction cryptogram.now pin.now buffer.old place)
+        (number_told result) buffer.new }
 {
-    let Listed::One(command) = script::ordered(instruction) else {
-        return Refusal::INPUT;
-    };
+    let command = script::ordered(instruction)?;
     if cryptogram.len() != 8 {
-        return Refusal::INPUT;
+        return Err(Refusal::Input);
     }
     if !keys::card_fits(pan, sequence) {
-        return Refusal::CARD_NUMBER;
+        return Err(Refusal::CardNumber);
     }
-    let c = id_of(pan, sequence);
-    let t = d.places;
-    if !table::is_held(t, c) {
-        return Refusal::UNKNOWN_CARD;
+    if !table::is_held(d.places, id_of(pan, sequence)) {
+        return Err(Refusal::UnknownCard);
     }
-    let issuer = d.smi;
-    let smi = script_of(d.packed, issuer, pan, sequence, cryptogram);
-    let other = d.smc;
-    let smc = script_of(d.packed, other, pan, sequence, cryptogram);
+    let smi = script_of(d.packed, d.smi, pan, sequence, cryptogram);
+    let smc = script_of(d.packed, d.smc, pan, sequence, cryptogram);
     script::wrap_command(command, smi, smc, pin, buffer, place)
 }

@@ -1,5 +1,6 @@
 // A command's header and message under session keys, at a place of a lent buffer.
 ghost use Rattle.std.specs.Prelude.{◌≡◌, ◌+◌, ◌≤◌, length};
+ghost use Rattle.answers.specs.Answers.{number_told};
 ghost use Rattle.octets.specs.Laid.{laid};
 ghost use Rattle.shapes.specs.Command.{header_of};
 ghost use Rattle.desk.specs.Wrap.{ordered as orderedBy, script, writes, wraps_command};
@@ -7,22 +8,18 @@ ghost use Rattle.message.specs.Answers.{Wrote};
 ghost use Rattle.shapes.specs.declared.command.Command.TheVariants.{SetPin};
 
 use answers::Refusal;
-use message::{Command, Listed};
+use message::Command;
 
 // The command of an instruction byte; another than the three is 1.
-pub fn ordered(instruction: u8) -> Listed
+pub fn ordered(instruction: u8) -> Result<Command, Refusal>
     ensures { result ≡ orderedBy instruction }
 {
-    if instruction == Command::SET_PIN {
-        return Listed::One(Command::SetPin);
+    match instruction {
+        Command::SET_PIN => Ok(Command::SetPin),
+        Command::SET_MARK => Ok(Command::SetMark),
+        Command::CLEAR_MARK => Ok(Command::ClearMark),
+        _ => Err(Refusal::Input),
     }
-    if instruction == Command::SET_MARK {
-        return Listed::One(Command::SetMark);
-    }
-    if instruction == Command::CLEAR_MARK {
-        return Listed::One(Command::ClearMark);
-    }
-    Listed::Unlisted(Refusal::Input)
 }
 
 // Stores a command's header at a place.
@@ -30,49 +27,54 @@ fn store_header(c: Command, buffer: &mut [u8], place: usize)
     requires { place + 4 ≤ length buffer.old }
     ensures { buffer.new ≡ laid buffer.old place (header_of c) }
 {
-    let h = c.header();
-    buffer[place] = h[0];
-    buffer[place + 1] = h[1];
-    buffer[place + 2] = h[2];
-    buffer[place + 3] = h[3];
+    buffer[place..place + 4].copy_from_slice(&c.header());
 }
 
 // A command's header and message with the data given, at a place from which they fit.
-fn lay_script(c: Command, smi: [u8; 32], data: &[u8], buffer: &mut [u8], place: usize) -> u8
+fn lay_script(
+    c: Command,
+    smi: [u8; 32],
+    data: &[u8],
+    buffer: &mut [u8],
+    place: usize,
+) -> Result<(), Refusal>
     requires { (length «data».now ≤ 255) × (place + length (script c smi «data».now) ≤ length buffer.old) }
-    ensures { Wrote (writes (script c smi «data».now) buffer.old place) result buffer.new }
+    ensures { Wrote (writes (script c smi «data».now) buffer.old place) (number_told result) buffer.new }
 {
     store_header(c, buffer, place);
-    let h = c.header();
-    let tag = c.tag();
-    message::wrap(&smi, &h, tag, data, buffer, place + 4)
+    message::wrap(&smi, &c.header(), c.tag(), data, buffer, place + 4)
 }
 
 // The same at any place; or 3.
-fn write_script(c: Command, smi: [u8; 32], data: &[u8], buffer: &mut [u8], place: usize) -> u8
+fn write_script(
+    c: Command,
+    smi: [u8; 32],
+    data: &[u8],
+    buffer: &mut [u8],
+    place: usize,
+) -> Result<(), Refusal>
     requires { length «data».now ≤ 255 }
-    ensures { Wrote (writes (script c smi «data».now) buffer.old place) result buffer.new }
+    ensures { Wrote (writes (script c smi «data».now) buffer.old place) (number_told result) buffer.new }
 {
     let n = data.len();
     let size = 10 + n + shapes::place_of(n);
-    if buffer.len() < place {
-        return Refusal::NO_ROOM;
-    }
-    if buffer.len() - place < size {
-        return Refusal::NO_ROOM;
+    if buffer.len() < place || buffer.len() - place < size {
+        return Err(Refusal::NoRoom);
     }
     lay_script(c, smi, data, buffer, place)
 }
 
 // The same with a PIN, enciphered under the SMC key; or 12.
-fn write_pin(smi: [u8; 32], smc: [u8; 32], pin: &[u8], buffer: &mut [u8], place: usize) -> u8
-    ensures { Wrote (wraps_command SetPin smi smc pin.now buffer.old place) result buffer.new }
+fn write_pin(
+    smi: [u8; 32],
+    smc: [u8; 32],
+    pin: &[u8],
+    buffer: &mut [u8],
+    place: usize,
+) -> Result<(), Refusal>
+    ensures { Wrote (wraps_command SetPin smi smc pin.now buffer.old place) (number_told result) buffer.new }
 {
-    let e = pin::encipher_pin(&smc, pin);
-    if e.code != 0 {
-        return Refusal::PIN_DIGITS;
-    }
-    let block = e.bytes;
+    let block = pin::encipher_pin(&smc, pin)?;
     write_script(Command::SetPin, smi, &block, buffer, place)
 }
 
@@ -84,13 +86,11 @@ pub fn wrap_command(
     pin: &[u8],
     buffer: &mut [u8],
     place: usize,
-) -> u8
-    ensures { Wrote (wraps_command c smi smc pin.now buffer.old place) result buffer.new }
+) -> Result<(), Refusal>
+    ensures { Wrote (wraps_command c smi smc pin.now buffer.old place) (number_told result) buffer.new }
 {
-    let none = [0; 0];
     match c {
         Command::SetPin => write_pin(smi, smc, pin, buffer, place),
-        Command::SetMark => write_script(Command::SetMark, smi, &none, buffer, place),
-        Command::ClearMark => write_script(Command::ClearMark, smi, &none, buffer, place),
+        Command::SetMark | Command::ClearMark => write_script(c, smi, &[], buffer, place),
     }
 }

@@ -5,7 +5,7 @@ use native.Mathlib.Numerals.{add-one}
 use mathlib.Core.Path.{◌≡◌, refl, sym, ap, ap₂, ◌∙◌}
 use mathlib.Core.Bool.{Bool, true, false, not, ◌&&◌, ◌||◌, cond, and-eq-true_iff, true≢false, false≢true}
 use mathlib.Core.List.{List, [], ◌∷◌}
-use mathlib.Core.Option.{Option, none, some}
+use Rattle.std.specs.Prelude.{Option, None, Some}
 use lib.Dec.{eqb}
 use lib.ListN.{length}
 use borrow.Author.Tests.{eq-eqb, eqb-true, not-true}
@@ -22,12 +22,12 @@ pub card_refl : (p : List ℕ) (s : ℕ) → (same p p && eqb s s) ≡ true
 card_refl p s = ap₂ (λ (x y : Bool). x && y) (same_refl p) (eq-eqb s s refl)
 
 -- a card that is not held has no last counter
-pub last_none : (p : List ℕ) (s : ℕ) (b : List Holding) → holds p s b ≡ false → last_of p s b ≡ none
+pub last_none : (p : List ℕ) (s : ℕ) (b : List Holding) → holds p s b ≡ false → last_of p s b ≡ None
 unfolding holds last_of
 last_none p s [] e = refl
 last_none p s (h ∷ b) e = go (is_of p s h) e (last_none p s b)
   where
-    go : (x : Bool) → (x || holds p s b) ≡ false → (holds p s b ≡ false → last_of p s b ≡ none) → cond x h.last (last_of p s b) ≡ none
+    go : (x : Bool) → (x || holds p s b) ≡ false → (holds p s b ≡ false → last_of p s b ≡ None) → cond x h.last (last_of p s b) ≡ None
     go true f ih = absurd (true≢false f)
     go false f ih = ih f
 
@@ -53,7 +53,7 @@ module _ (pan : List ℕ) (q : ℕ) where
 
   module _ (n : ℕ) where
     -- a holding with the counter is of the same card
-    of_kept : (p : List ℕ) (s : ℕ) (h : Holding) (y : Bool) → is_of p s (cond y (record { pan = h.pan; sequence = h.sequence; last = some n }) h) ≡ is_of p s h
+    of_kept : (p : List ℕ) (s : ℕ) (h : Holding) (y : Bool) → is_of p s (cond y (record { pan = h.pan; sequence = h.sequence; last = Some n }) h) ≡ is_of p s h
     unfolding is_of
     of_kept p s h true = refl
     of_kept p s h false = refl
@@ -63,14 +63,14 @@ module _ (pan : List ℕ) (q : ℕ) where
     kept_holds p s [] = refl
     kept_holds p s (h ∷ b) = ap₂ (λ (x y : Bool). x || y) (of_kept p s h (is_of pan q h)) (kept_holds p s b)
 
-    pub kept_own : (b : List Holding) → holds pan q b ≡ true → last_of pan q (with_last pan q n b) ≡ some n
+    pub kept_own : (b : List Holding) → holds pan q b ≡ true → last_of pan q (with_last pan q n b) ≡ Some n
     unfolding holds last_of with_last
     kept_own [] e = absurd (false≢true e)
     kept_own (h ∷ b) e = go (is_of pan q h) refl e (kept_own b)
       where
-        go : (y : Bool) → is_of pan q h ≡ y → (y || holds pan q b) ≡ true → (holds pan q b ≡ true → last_of pan q (with_last pan q n b) ≡ some n)
-            → last_of pan q (cond y (record { pan = h.pan; sequence = h.sequence; last = some n }) h ∷ with_last pan q n b) ≡ some n
-        go true w f ih = ap (λ (x : Bool). cond x (some n) (last_of pan q (with_last pan q n b))) (of_kept pan q h true ∙ w)
+        go : (y : Bool) → is_of pan q h ≡ y → (y || holds pan q b) ≡ true → (holds pan q b ≡ true → last_of pan q (with_last pan q n b) ≡ Some n)
+            → last_of pan q (cond y (record { pan = h.pan; sequence = h.sequence; last = Some n }) h ∷ with_last pan q n b) ≡ Some n
+        go true w f ih = ap (λ (x : Bool). cond x (Some n) (last_of pan q (with_last pan q n b))) (of_kept pan q h true ∙ w)
         go false w f ih = ap (λ (x : Bool). cond x h.last (last_of pan q (with_last pan q n b))) w ∙ ih f
 
     pub kept_length : (b : List Holding) → length (with_last pan q n b) ≡ length b
@@ -83,7 +83,7 @@ module _ (pan : List ℕ) (q : ℕ) where
     kept_once [] = refl
     kept_once (h ∷ b) = go (is_of pan q h) (kept_once b)
       where
-        go : (y : Bool) → once (with_last pan q n b) ≡ once b → once (cond y (record { pan = h.pan; sequence = h.sequence; last = some n }) h ∷ with_last pan q n b) ≡ once (h ∷ b)
+        go : (y : Bool) → once (with_last pan q n b) ≡ once b → once (cond y (record { pan = h.pan; sequence = h.sequence; last = Some n }) h ∷ with_last pan q n b) ≡ once (h ∷ b)
         go true ih = ap₂ (λ (x z : Bool). not x && z) (kept_holds h.pan h.sequence b) ih
         go false ih = ap₂ (λ (x z : Bool). not x && z) (kept_holds h.pan h.sequence b) ih
 
@@ -121,9 +121,9 @@ module _ (pan : List ℕ) (q : ℕ) where
     kept_last n (h ∷ b) = go (is_of pan q h) refl (kept_last n b)
       where
         go : (y : Bool) → is_of pan q h ≡ y → last_of p s (with_last pan q n b) ≡ last_of p s b
-            → last_of p s (cond y (record { pan = h.pan; sequence = h.sequence; last = some n }) h ∷ with_last pan q n b) ≡ cond (is_of p s h) h.last (last_of p s b)
+            → last_of p s (cond y (record { pan = h.pan; sequence = h.sequence; last = Some n }) h ∷ with_last pan q n b) ≡ cond (is_of p s h) h.last (last_of p s b)
         go true e ih =
-            ap₂ (λ (x : Bool) (l : Option ℕ). cond x (some n) l) (of_kept n p s h true ∙ of_other h e) ih
+            ap₂ (λ (x : Bool) (l : Option ℕ). cond x (Some n) l) (of_kept n p s h true ∙ of_other h e) ih
             ∙ sym (ap (λ (x : Bool). cond x h.last (last_of p s b)) (of_other h e))
         go false e ih = ap (λ (x : Option ℕ). cond (is_of p s h) h.last x) ih
 

@@ -3,7 +3,7 @@ use Prim.Native.Nat.{ℕ, ◌+◌, ◌<◌}
 use mathlib.Core.Path.{◌≡◌, refl, sym, ap, ap₂, ◌∙◌}
 use mathlib.Core.Bool.{Bool, true, false, ◌&&◌}
 use mathlib.Core.List.{List}
-use mathlib.Core.Option.{Option, none, some}
+use Rattle.std.specs.Prelude.{Option, None, Some}
 use lib.Dec.{eqb}
 use lib.ListN.{length}
 use borrow.Author.Tests.{eqb-false, ltb-true, lt-ltb, le-ltb, lt-leb}
@@ -22,9 +22,9 @@ all_true true true false s a z = absurd (eqb-false 19 0 refl z)
 all_true true false h s a z = absurd (eqb-false 2 0 refl z)
 all_true false f h s a z = absurd (eqb-false 1 0 refl z)
 
-is_above_lem : (n : ℕ) (x : Option ℕ) → ((l : ℕ) → x ≡ some l → l < n) → is_above n x ≡ true
-is_above_lem n none h = refl
-is_above_lem n (some l) h = lt-ltb l n (h l refl)
+is_above_lem : (n : ℕ) (x : Option ℕ) → ((l : ℕ) → x ≡ Some l → l < n) → is_above n x ≡ true
+is_above_lem n None h = refl
+is_above_lem n (Some l) h = lt-ltb l n (h l refl)
 
 pub check_exactly : CheckExactly
 unfolding due

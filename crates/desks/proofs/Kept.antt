@@ -5,7 +5,7 @@ use native.Mathlib.Numerals.{add-one}
 use mathlib.Core.Path.{◌≡◌, refl, sym, ap, ap₂, ◌∙◌}
 use mathlib.Core.Bool.{Bool, true, false, not, ◌&&◌, ◌||◌, cond, true≢false}
 use mathlib.Core.List.{List, [], ◌∷◌}
-use mathlib.Core.Option.{Option, none, some}
+use Rattle.std.specs.Prelude.{Option, None, Some}
 use lib.Dec.{eqb, leb, ltb}
 use lib.ListN.{length, take, replicate, length-replicate}
 use lib.Seq.{take_at}
@@ -13,14 +13,13 @@ use borrow.Author.Tests.{leb-true, leb-false, lt-ltb, le-ltb}
 use Rattle.octets.specs.Same.{same}
 use Rattle.table.specs.declared.CardId.{CardId}
 use Rattle.table.specs.declared.Entry.{Entry}
-use Rattle.table.specs.declared.Last.{Last}
 use Rattle.table.specs.Table.{same_id, names, held, room, readings, held_count}
 use Rattle.table.specs.Calls.{empty, placed, each, cleared_entry, kept_entry, reading}
 use Rattle.table.specs.Acts.{last_of as lastIn}
 use Rattle.table.specs.Seen.{is_some, first, over}
 use Rattle.table.proofs.Touch.{id_equal, held_reads, last_reads, room_count, placed_own, placed_other, placed_count, placed_length, each_length, cleared_own, cleared_other, cleared_count, kept_own, kept_other, kept_count}
 use Rattle.desk.specs.Desk.{id_of}
-use Rattle.desk.specs.Check.{above_last}
+use Rattle.desk.specs.Check.{above, above_last}
 use Rattle.desks.specs.Run.{Issuer, DeskCall, Add, Forget, Check}
 use Rattle.desks.specs.Book.{Holding, holds, last_of, counter_of, is_above, due, writes}
 use Rattle.desks.specs.Sentences.{is_add, is_forget, is_check, its_counter, once, read_as}
@@ -81,12 +80,9 @@ some_reads pan q b = go (holds pan q b)
     go true = refl
     go false = refl
 
-above_as : (x : Last) (n : ℕ) → (not x.known || ltb x.last n) ≡ is_above n (lastIn x)
-above_as x n = go x.known
-  where
-    go : (b : Bool) → (not b || ltb x.last n) ≡ is_above n (cond b (some x.last) none)
-    go true = refl
-    go false = refl
+above_as : (x : Option ℕ) (n : ℕ) → above x n ≡ is_above n x
+above_as None n = refl
+above_as (Some l) n = refl
 
 room_left : (n : ℕ) → ltb n 64 ≡ not (leb 64 n)
 room_left n = go (leb 64 n) refl
@@ -97,11 +93,11 @@ room_left n = go (leb 64 n) refl
 
 -- what is read of a card after an accepted call
 reads_after : (k : Issuer) (b : List Holding) (c : DeskCall) (p : List ℕ) (s : ℕ) (a f x : Bool) → due k b c ≡ 0 → is_add p s c ≡ a → is_forget p s c ≡ f → is_check p s c ≡ x
-    → read_as p s (writes c b) ≡ cond (cond (a || f) a (holds p s b)) (cond (a || f) none (cond x (some (its_counter c)) (last_of p s b)) ∷ []) []
+    → read_as p s (writes c b) ≡ cond (cond (a || f) a (holds p s b)) (cond (a || f) None (cond x (Some (its_counter c)) (last_of p s b)) ∷ []) []
 reads_after k b c p s a f x z ea ef ex =
     ap₂ (λ (y : Bool) (l : Option ℕ). cond y (l ∷ []) [])
     (writes_holds p s b c ∙ ap₂ (λ (y w : Bool). cond (y || w) y (holds p s b)) ea ef)
-    (writes_last p s b k c z ∙ ap₂ (λ (y : Bool) (l : Option ℕ). cond y none l) (ap₂ (λ (y w : Bool). y || w) ea ef) (ap (λ (y : Bool). cond y (some (its_counter c)) (last_of p s b)) ex))
+    (writes_last p s b k c z ∙ ap₂ (λ (y : Bool) (l : Option ℕ). cond y None l) (ap₂ (λ (y w : Bool). y || w) ea ef) (ap (λ (y : Bool). cond y (Some (its_counter c)) (last_of p s b)) ex))
 
 module _ (t : List Entry) (b : List Holding) (h : Kept t b) where
   pub has_room : room t ≡ not (leb 64 (length b))
@@ -114,7 +110,7 @@ module _ (t : List Entry) (b : List Holding) (h : Kept t b) where
     pub is_above_lem : (n : ℕ) → above_last t (id_of pan q) n ≡ is_above n (last_of pan q b)
     unfolding above_last
     is_above_lem n =
-        above_as (reading (id_of pan q) t) n
+        above_as (lastIn (reading (id_of pan q) t)) n
         ∙ ap (is_above n) (last_reads (id_of pan q) t ∙ ap first (h.reads pan q) ∙ first_reads pan q b)
 
     -- a change at this card alone
@@ -169,7 +165,7 @@ module _ (t : List Entry) (b : List Holding) (h : Kept t b) where
               reads = by_card (each (kept_entry (id_of pan q) n) t) (writes (Check pan q m arqc csu) b)
                   (kept_own (id_of pan q) n t
                   ∙ ap (over n) (h.reads pan q ∙ ap (λ (x : Bool). cond x (last_of pan q b ∷ []) []) e)
-                  ∙ sym (reads_after k b (Check pan q m arqc csu) pan q false false true z refl refl (card_refl pan q) ∙ ap (λ (x : Bool). cond x (some n ∷ []) []) e))
+                  ∙ sym (reads_after k b (Check pan q m arqc csu) pan q false false true z refl refl (card_refl pan q) ∙ ap (λ (x : Bool). cond x (Some n ∷ []) []) e))
                   (λ c d. kept_other (id_of pan q) n c d t)
                   (λ p s d. reads_after k b (Check pan q m arqc csu) p s false false false z refl refl d);
             }

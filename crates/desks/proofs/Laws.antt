@@ -6,7 +6,7 @@ use mathlib.Core.Path.{◌≡◌, refl, sym, ap, ap₂, subst, ◌∙◌}
 use mathlib.Core.Logic.{◌↔◌}
 use mathlib.Core.Bool.{Bool, true, false, not, ◌&&◌, ◌||◌, cond, true≢false, false≢true}
 use mathlib.Core.List.{List, [], ◌∷◌, ◌++◌}
-use mathlib.Core.Option.{Option, none, some}
+use Rattle.std.specs.Prelude.{Option, None, Some}
 use lib.Dec.{eqb, leb}
 use lib.ListN.{length}
 use borrow.Author.Tests.{eqb-true, eqb-false, not-false, ltb-true, leb-true, leb-false, le-leb}
@@ -81,16 +81,16 @@ module _ (pan : List ℕ) (q : ℕ) (b : List Holding) where
   writes_holds (Wrap p s i g pin lent place) = refl
 
   pub writes_last : (k : Issuer) (c : DeskCall) → due k b c ≡ 0
-      → last_of pan q (writes c b) ≡ cond (is_add pan q c || is_forget pan q c) none (cond (is_check pan q c) (some (its_counter c)) (last_of pan q b))
+      → last_of pan q (writes c b) ≡ cond (is_add pan q c || is_forget pan q c) None (cond (is_check pan q c) (Some (its_counter c)) (last_of pan q b))
   unfolding is_of last_of
   writes_last k (Add p s) e = go (same pan p && eqb q s)
     where
-      go : (x : Bool) → cond x none (last_of pan q b) ≡ cond (x || false) none (last_of pan q b)
+      go : (x : Bool) → cond x None (last_of pan q b) ≡ cond (x || false) None (last_of pan q b)
       go true = refl
       go false = refl
   writes_last k (Forget p s) e = go (same pan p && eqb q s) refl
     where
-      go : (x : Bool) → (same pan p && eqb q s) ≡ x → last_of pan q (writes (Forget p s) b) ≡ cond x none (last_of pan q b)
+      go : (x : Bool) → (same pan p && eqb q s) ≡ x → last_of pan q (writes (Forget p s) b) ≡ cond x None (last_of pan q b)
       go true w =
           let c = card_equal pan q p s w in
           ap₂ (λ (x : List ℕ) (y : ℕ). last_of x y (writes (Forget p s) b)) c.0 c.1 ∙ last_none p s (writes (Forget p s) b) (struck_own p s b)
@@ -100,7 +100,7 @@ module _ (pan : List ℕ) (q : ℕ) (b : List Holding) where
       after : List Holding
       after = writes (Check p s m arqc csu) b
 
-      go : (x : Bool) → (same pan p && eqb q s) ≡ x → last_of pan q after ≡ cond x (some (counter_of m)) (last_of pan q b)
+      go : (x : Bool) → (same pan p && eqb q s) ≡ x → last_of pan q after ≡ cond x (Some (counter_of m)) (last_of pan q b)
       go true w =
           let c = card_equal pan q p s w in
           ap₂ (λ (x : List ℕ) (y : ℕ). last_of x y after) c.0 c.1 ∙ kept_own p s (counter_of m) b (check_passed k b p s m arqc csu e).0
@@ -125,11 +125,11 @@ module _ (k : Issuer) (cs : List DeskCall) (c : DeskCall) where
       go false e = ap (holds pan q) (refusal_keeps e)
 
   last_step : (pan : List ℕ) (q : ℕ) → last_of pan q (book k (c ∷ cs))
-      ≡ cond (accepted k cs c && (is_add pan q c || is_forget pan q c)) none (cond (accepted k cs c && is_check pan q c) (some (its_counter c)) (last_of pan q (book k cs)))
+      ≡ cond (accepted k cs c && (is_add pan q c || is_forget pan q c)) None (cond (accepted k cs c && is_check pan q c) (Some (its_counter c)) (last_of pan q (book k cs)))
   last_step pan q = go (accepted k cs c) refl
     where
       go : (x : Bool) → accepted k cs c ≡ x
-          → last_of pan q (book k (c ∷ cs)) ≡ cond (x && (is_add pan q c || is_forget pan q c)) none (cond (x && is_check pan q c) (some (its_counter c)) (last_of pan q (book k cs)))
+          → last_of pan q (book k (c ∷ cs)) ≡ cond (x && (is_add pan q c || is_forget pan q c)) None (cond (x && is_check pan q c) (Some (its_counter c)) (last_of pan q (book k cs)))
       go true e = ap (last_of pan q) (taken e) ∙ writes_last pan q (book k cs) k c (eqb-true _ _ e)
       go false e = ap (last_of pan q) (refusal_keeps e)
 
@@ -145,7 +145,7 @@ unfolding book last_of
 last_exactly k pan q [] = refl
 last_exactly k pan q (c ∷ cs) =
     last_step k cs c pan q
-    ∙ ap (λ (x : Option ℕ). cond (accepted k cs c && (is_add pan q c || is_forget pan q c)) none (cond (accepted k cs c && is_check pan q c) (some (its_counter c)) x)) (last_exactly k pan q cs)
+    ∙ ap (λ (x : Option ℕ). cond (accepted k cs c && (is_add pan q c || is_forget pan q c)) None (cond (accepted k cs c && is_check pan q c) (Some (its_counter c)) x)) (last_exactly k pan q cs)
 
 -- no card twice, and no more than 64
 writes_once : (k : Issuer) (b : List Holding) (c : DeskCall) → due k b c ≡ 0 → once b ≡ true → once (writes c b) ≡ true
@@ -224,7 +224,7 @@ module _ (pan : List ℕ) (q : ℕ) where
 
 -- the last counter is at least n
 abbrev AtLeast : ℕ → Option ℕ → Type 0
-AtLeast n l = (m : ℕ) × (l ≡ some m) × (n ≤ m)
+AtLeast n l = (m : ℕ) × (l ≡ Some m) × (n ≤ m)
 
 module _ (k : Issuer) (pan : List ℕ) (q n : ℕ) where
   -- one call that does not forget the card
@@ -235,16 +235,16 @@ module _ (k : Issuer) (pan : List ℕ) (q n : ℕ) where
       last = last_of pan q (book k (c ∷ cs))
 
       go : (x a r s : Bool) → accepted k cs c ≡ x → is_add pan q c ≡ a → is_check pan q c ≡ s → (x && r) ≡ false
-          → last ≡ cond (x && (a || r)) none (cond (x && s) (some (its_counter c)) (last_of pan q (book k cs))) → AtLeast n last
+          → last ≡ cond (x && (a || r)) None (cond (x && s) (Some (its_counter c)) (last_of pan q (book k cs))) → AtLeast n last
       go false a r s ex ea es g e = (l.0, e ∙ l.1, l.2)
       go true a true s ex ea es g e = absurd (true≢false g)
       go true true false s ex ea es g e =
-          let z : none ≡ some l.0 = sym (last_none pan q (book k cs) (was_new pan q k (book k cs) c ea (eqb-true _ _ ex))) ∙ l.1 in
+          let z : None ≡ Some l.0 = sym (last_none pan q (book k cs) (was_new pan q k (book k cs) c ea (eqb-true _ _ ex))) ∙ l.1 in
           let w : ◌≡◌ {A = ℕ} 0 1 = cc in
           absurd (eqb-false 0 1 refl w)
       go true false false false ex ea es g e = (l.0, e ∙ l.1, l.2)
       go true false false true ex ea es g e =
-          let u : is_above (its_counter c) (some l.0) ≡ true = subst (λ (x : Option ℕ). is_above (its_counter c) x ≡ true) l.1 (above pan q k (book k cs) c es (eqb-true _ _ ex)) in
+          let u : is_above (its_counter c) (Some l.0) ≡ true = subst (λ (x : Option ℕ). is_above (its_counter c) x ≡ true) l.1 (above pan q k (book k cs) c es (eqb-true _ _ ex)) in
           (its_counter c, e, omega (arith, ltb-true l.0 (its_counter c) u, l.2))
 
   stay : (cs between : List DeskCall) → never_forgot k pan q between cs ≡ true → AtLeast n (last_of pan q (book k cs)) → AtLeast n (last_of pan q (book k (between ++ cs)))
@@ -261,9 +261,9 @@ counters_grow : (k : Issuer) (pan : List ℕ) (q : ℕ) (c e : DeskCall) (betwee
     → is_check pan q c ≡ true → is_check pan q e ≡ true → accepted k cs c ≡ true → never_forgot k pan q between (c ∷ cs) ≡ true
     → accepted k (between ++ (c ∷ cs)) e ≡ true → its_counter c < its_counter e
 counters_grow k pan q c e between cs hc he ac f ae =
-    let first : last_of pan q (book k (c ∷ cs)) ≡ some (its_counter c) = last_step k cs c pan q ∙ rw (ac, only_check pan q c hc, hc) in
+    let first : last_of pan q (book k (c ∷ cs)) ≡ Some (its_counter c) = last_step k cs c pan q ∙ rw (ac, only_check pan q c hc, hc) in
     let l = stay k pan q (its_counter c) (c ∷ cs) between f (its_counter c, first, omega arith) in
-    let u : is_above (its_counter e) (some l.0) ≡ true = subst (λ (x : Option ℕ). is_above (its_counter e) x ≡ true) l.1 (above pan q k (book k (between ++ (c ∷ cs))) e he (eqb-true _ _ ae)) in
+    let u : is_above (its_counter e) (Some l.0) ≡ true = subst (λ (x : Option ℕ). is_above (its_counter e) x ≡ true) l.1 (above pan q k (book k (between ++ (c ∷ cs))) e he (eqb-true _ _ ae)) in
     omega (arith, ltb-true l.0 (its_counter e) u, l.2)
 
 pub sentences : Sentences

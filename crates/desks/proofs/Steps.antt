@@ -7,9 +7,11 @@ use mathlib.Core.List.{List, [], ◌∷◌, ◌++◌}
 use lib.Dec.{eqb, leb}
 use lib.ListN.{length}
 use borrow.Author.Tests.{eqb-true}
+use Rattle.std.specs.Prelude.{Result, Ok, Err}
 use Rattle.answers.specs.declared.Refusal.{Refusal}
 use Rattle.answers.specs.declared.Refusal.TheVariants.{Input, CardNumber, NoRoom, PinDigits, UnknownCard, AlreadyHeld, TableFull, ArqcDiffers, CounterNotAbove}
 use Rattle.answers.specs.Refusals.{number as number_of}
+use Rattle.answers.specs.Answers.{number_told}
 use Rattle.answers.proofs.Laws.{not_zero}
 use Rattle.octets.specs.Same.{same}
 use Rattle.octets.specs.Numbers.{be}
@@ -23,22 +25,19 @@ use Rattle.cryptogram.specs.declared.Kind.TheVariants.{Arqc}
 use Rattle.cryptogram.specs.Cryptogram.{cryptogram_of, arpc_of}
 use Rattle.shapes.specs.declared.command.Command.{Command}
 use Rattle.shapes.specs.declared.command.Command.TheVariants.{SetPin, SetMark, ClearMark}
-use Rattle.shapes.specs.declared.command.Listed.TheVariants.{One, Unlisted}
 use Rattle.shapes.specs.Command.{header_of, tag_for}
 use Rattle.shapes.proofs.CommandLaws.{headers, tags}
 use Rattle.message.specs.Code.{message}
 use Rattle.message.specs.Answers.{Written}
 use Rattle.table.specs.declared.CardId.{CardId}
 use Rattle.table.specs.declared.Entry.{Entry}
-use Rattle.table.specs.declared.Changed.{Changed}
 use Rattle.table.specs.Table.{held}
-use Rattle.table.specs.Calls.{changed, placed, each, cleared_entry, kept_entry, keeping}
+use Rattle.table.specs.Calls.{placed, each, cleared_entry, kept_entry, keeping}
 use Rattle.table.proofs.Touch.{adding_as, forgetting_as, keeping_as}
 use Rattle.desk.specs.declared.Desk.{Desk}
-use Rattle.desk.specs.declared.Told.{Told}
 use Rattle.desk.specs.declared.Checked.{Checked}
-use Rattle.desk.specs.Desk.{id_of, master_key, with_places, told, told_by, adds, forgets}
-use Rattle.desk.specs.Check.{counter_in, session_of, above_last, unchecked, checks_right, checks_known, checks}
+use Rattle.desk.specs.Desk.{id_of, master_key, with_places, told_by, adds, forgets, desk_after}
+use Rattle.desk.specs.Check.{counter_in, session_of, above_last, given_by, checks_right, checks_known, checks, after_check}
 use Rattle.desk.specs.Wrap.{ordered, script_of, pin_good, carried, script, unwritten, writes as lays, wraps_command, wraps_order, wraps_listed, wraps}
 use Rattle.desks.specs.Run.{Issuer, DeskCall, Add, Forget, Check, Wrap, DeskAnswer, empty_desk, our_answer, our_next}
 use Rattle.desks.specs.Book.{Holding, holds, last_of, master_for, counter_of, session_for, arqc_for, is_above, is_command, script_for, Strike, strikes, first_of, due, gives, leaves, writes}
@@ -85,18 +84,18 @@ module _ (k : Issuer) (t : List Entry) (b : List Holding) (o : once b ≡ true) 
     abbrev c : CardId
     c = id_of pan q
 
-    abbrev ToldStep : DeskCall → Told → ℕ → Type 0
-    ToldStep x r n = Step k b x (record { number = r.code; bytes = [] }) r.desk n
+    abbrev ToldStep : DeskCall → Result Desk Refusal → ℕ → Type 0
+    ToldStep x r n = Step k b x (record { number = number_told r; bytes = [] }) (desk_after r d) n
 
     step_add : ToldStep (Add pan q) (adds d pan q) (due k b (Add pan q))
     unfolding adds due gives
     step_add =
-        subst⁻¹ (λ (r : Changed). ToldStep (Add pan q) (cond (card_fits pan q) (told_by d r) (told d 2)) (due k b (Add pan q)))
+        subst⁻¹ (λ (r : Result (List Entry) Refusal). ToldStep (Add pan q) (cond (card_fits pan q) (told_by d r) (Err CardNumber)) (due k b (Add pan q)))
         (adding_as c t (holds pan q b) (not (leb 64 (length b))) (is_held t b h pan q) (has_room t b h))
         (go (card_fits pan q) (holds pan q b) (leb 64 (length b)) (added t b h pan q k))
       where
         go : (f x r : Bool) → (first_of (add_tests f x r) ≡ 0 → Kept (placed c t) (writes (Add pan q) b))
-            → ToldStep (Add pan q) (cond f (told_by d (cond x (changed 20 t) (cond (not r) (changed 0 (placed c t)) (changed 21 t)))) (told d 2)) (first_of (add_tests f x r))
+            → ToldStep (Add pan q) (cond f (told_by d (cond x (Err AlreadyHeld) (cond (not r) (Ok (placed c t)) (Err TableFull)))) (Err CardNumber)) (first_of (add_tests f x r))
         go true true r w = refuses (Add pan q) AlreadyHeld
         go true false true w = refuses (Add pan q) TableFull
         go true false false w = accepts (Add pan q) [] refl (placed c t) (w refl)
@@ -105,11 +104,11 @@ module _ (k : Issuer) (t : List Entry) (b : List Holding) (o : once b ≡ true) 
     step_forget : ToldStep (Forget pan q) (forgets d pan q) (due k b (Forget pan q))
     unfolding forgets due gives
     step_forget =
-        subst⁻¹ (λ (r : Changed). ToldStep (Forget pan q) (cond (card_fits pan q) (told_by d r) (told d 2)) (due k b (Forget pan q)))
+        subst⁻¹ (λ (r : Result (List Entry) Refusal). ToldStep (Forget pan q) (cond (card_fits pan q) (told_by d r) (Err CardNumber)) (due k b (Forget pan q)))
         (forgetting_as c t (holds pan q b) (is_held t b h pan q)) (go (card_fits pan q) (holds pan q b) (struck t b h pan q k o))
       where
         go : (f x : Bool) → (first_of (forget_tests f x) ≡ 0 → Kept (each (cleared_entry c) t) (writes (Forget pan q) b))
-            → ToldStep (Forget pan q) (cond f (told_by d (cond x (changed 0 (each (cleared_entry c) t)) (changed 19 t))) (told d 2)) (first_of (forget_tests f x))
+            → ToldStep (Forget pan q) (cond f (told_by d (cond x (Ok (each (cleared_entry c) t)) (Err UnknownCard))) (Err CardNumber)) (first_of (forget_tests f x))
         go true true w = accepts (Forget pan q) [] refl (each (cleared_entry c) t) (w refl)
         go true false w = refuses (Forget pan q) UnknownCard
         go false x w = refuses (Forget pan q) CardNumber
@@ -119,18 +118,18 @@ module _ (k : Issuer) (t : List Entry) (b : List Holding) (o : once b ≡ true) 
       abbrev call : DeskCall
       call = Check pan q m arqc csu
 
-      abbrev CheckStep : Checked → ℕ → Type 0
-      CheckStep r n = Step k b call (record { number = r.code; bytes = r.arpc }) r.desk n
+      abbrev CheckStep : Result Checked Refusal → ℕ → Type 0
+      CheckStep r n = Step k b call (record { number = number_told r; bytes = (after_check r d).arpc }) (after_check r d).desk n
 
-      abbrev checked_by : Bool → Bool → Bool → Bool → ℕ → List ℕ → Checked
+      abbrev checked_by : Bool → Bool → Bool → Bool → ℕ → List ℕ → Result Checked Refusal
       checked_by f x s a n ks =
           cond f
           (cond x
-          (cond s (cond a (record { desk = with_places d (keeping c n t).places; code = 0; arpc = arpc_of ks arqc csu }) (unchecked d 23)) (unchecked d 22))
-          (unchecked d 19))
-          (unchecked d 2)
+          (cond s (cond a (given_by d (arpc_of ks arqc csu) (keeping c n t)) (Err CounterNotAbove)) (Err ArqcDiffers))
+          (Err UnknownCard))
+          (Err CardNumber)
 
-      abbrev of_table : ℕ → Checked
+      abbrev of_table : ℕ → Result Checked Refusal
       of_table n =
           let ks : List ℕ = subkeys 8 (session_of d pan q n) in
           checked_by (card_fits pan q) (held c t) (same (cryptogram_of ks Arqc n m) arqc) (above_last t c n) n ks
@@ -141,7 +140,7 @@ module _ (k : Issuer) (t : List Entry) (b : List Holding) (o : once b ≡ true) 
       abbrev above : Bool
       above = is_above (counter_of m) (last_of pan q b)
 
-      abbrev of_book : Bool → Bool → Bool → Bool → Checked
+      abbrev of_book : Bool → Bool → Bool → Bool → Result Checked Refusal
       of_book f x s a = checked_by f x s a (counter_of m) (session_for k pan q m)
 
       same_check : length m ≡ 65 → of_table (counter_in m) ≡ of_book (card_fits pan q) (holds pan q b) right above
@@ -154,7 +153,7 @@ module _ (k : Issuer) (t : List Entry) (b : List Holding) (o : once b ≡ true) 
       book_check : (f x s a : Bool) → holds pan q b ≡ x → (first_of (check_tests true f x s a) ≡ 0 → Raised) → CheckStep (of_book f x s a) (first_of (check_tests true f x s a))
       unfolding gives
       book_check true true true true e w =
-          subst⁻¹ (λ (r : Changed). CheckStep (record { desk = with_places d r.places; code = 0; arpc = arpc_of (session_for k pan q m) arqc csu }) 0)
+          subst⁻¹ (λ (r : Result (List Entry) Refusal). CheckStep (given_by d (arpc_of (session_for k pan q m) arqc csu) r) 0)
           (keeping_as c t (counter_of m) true (is_held t b h pan q ∙ e)) (accepts call (arpc_of (session_for k pan q m) arqc csu) refl (each (kept_entry c (counter_of m)) t) (w refl))
       book_check true true true false e w = refuses call CounterNotAbove
       book_check true true false a e w = refuses call ArqcDiffers
@@ -166,9 +165,9 @@ module _ (k : Issuer) (t : List Entry) (b : List Holding) (o : once b ≡ true) 
       step_check = go (eqb (length m) 65) (eqb (length arqc) 8 && eqb (length csu) 4) refl (raised t b h pan q k m arqc csu)
         where
           go : (l y : Bool) → eqb (length m) 65 ≡ l → (first_of (check_tests (l && y) (card_fits pan q) (holds pan q b) right above) ≡ 0 → Raised)
-              → CheckStep (cond (l && y) (of_table (counter_in m)) (unchecked d 1)) (first_of (check_tests (l && y) (card_fits pan q) (holds pan q b) right above))
+              → CheckStep (cond (l && y) (of_table (counter_in m)) (Err Input)) (first_of (check_tests (l && y) (card_fits pan q) (holds pan q b) right above))
           go true true e w =
-              subst⁻¹ (λ (r : Checked). CheckStep r (first_of (check_tests true (card_fits pan q) (holds pan q b) right above))) (same_check (eqb-true _ _ e))
+              subst⁻¹ (λ (r : Result Checked Refusal). CheckStep r (first_of (check_tests true (card_fits pan q) (holds pan q b) right above))) (same_check (eqb-true _ _ e))
               (book_check (card_fits pan q) (holds pan q b) right above refl w)
           go true false e w = refuses call Input
           go false y e w = refuses call Input
@@ -219,7 +218,7 @@ module _ (k : Issuer) (t : List Entry) (b : List Holding) (o : once b ≡ true) 
       made x = coded (header_of x) (tag_for x) (carried x (key k.smc) pin)
 
       wrap_command : (x : Command) → made x ≡ sent
-          → WrapStep (wraps_listed d pan q (One x) g pin lent place) (first_of (wrap_tests (eqb (length g) 8) (card_fits pan q) (holds pan q b) (not (pin_good x pin)) (fits sent)))
+          → WrapStep (wraps_listed d pan q (Ok x) g pin lent place) (first_of (wrap_tests (eqb (length g) 8) (card_fits pan q) (holds pan q b) (not (pin_good x pin)) (fits sent)))
       unfolding wraps_order wraps_command lays script script_of master_key master_for
       wrap_command x e =
           let by : Bool → List ℕ → Written = λ y s. wrapped_by (eqb (length g) 8) (card_fits pan q) y (pin_good x pin) (fits s) s in
@@ -242,7 +241,7 @@ module _ (k : Issuer) (t : List Entry) (b : List Holding) (o : once b ≡ true) 
       step_wrap = go (eqb i 0x24) (eqb i 0x1e) (eqb i 0x18) refl refl refl
         where
           go : (x y z : Bool) → eqb i 0x24 ≡ x → eqb i 0x1e ≡ y → eqb i 0x18 ≡ z
-              → WrapStep (wraps_listed d pan q (cond x (One SetPin) (cond y (One SetMark) (cond z (One ClearMark) (Unlisted Input)))) g pin lent place)
+              → WrapStep (wraps_listed d pan q (cond x (Ok SetPin) (cond y (Ok SetMark) (cond z (Ok ClearMark) (Err Input)))) g pin lent place)
               (first_of (wrap_tests ((x || (y || z)) && eqb (length g) 8) (card_fits pan q) (holds pan q b) (x && not (pin_fits 0 (length pin) pin)) (fits sent)))
           go true y z ex ey ez = wrap_command SetPin (sends_pin ex)
           go false true z ex ey ez = wrap_command SetMark (ap₂ (λ (u : List ℕ) (v : ℕ). coded u v []) headers.1 tags.1 ∙ sends_mark 0x1e ex ey)

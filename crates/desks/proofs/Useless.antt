@@ -5,7 +5,7 @@ use native.Mathlib.Numerals.{add-one}
 use mathlib.Core.Path.{◌≡◌, refl, sym, ap, ap₂, ◌∙◌}
 use mathlib.Core.Bool.{Bool, true, false, ◌&&◌, ◌||◌, cond}
 use mathlib.Core.List.{List, [], ◌∷◌}
-use mathlib.Core.Option.{Option, none, some}
+use Rattle.std.specs.Prelude.{Option, None, Some}
 use lib.Dec.{eqb, leb}
 use lib.ListN.{length, replicate}
 use borrow.Author.Tests.{eq-eqb, ne_eqb, eqb-false, le-ltb, le-leb, lt-leb}
@@ -14,7 +14,7 @@ use Rattle.octets.proofs.SameLaws.{same_refl}
 use Rattle.octets.proofs.DigitLaws.{digits_all}
 use Rattle.octets.proofs.Parts.{zeros_at}
 use Rattle.keys.specs.CardNumber.{card_fits}
-use Rattle.keys.proofs.CardLaws.{card_fits_lem}
+use Rattle.keys.proofs.SeedLaws.{card_fits_lem}
 use Rattle.cryptogram.specs.declared.Kind.TheVariants.{Arqc}
 use Rattle.cryptogram.proofs.AnswerLaws.{length-cryptogram}
 use Rattle.desks.specs.Run.{Issuer, DeskCall, Add, Forget, Check, reached, answered}
@@ -76,7 +76,7 @@ module _ (k : Issuer) where
   unfolding book holds
   first_due = add_due [] 0 (omega arith) refl (omega arith)
 
-  one_book : book k one ≡ record { pan = card; sequence = 0; last = none } ∷ []
+  one_book : book k one ≡ record { pan = card; sequence = 0; last = None } ∷ []
   unfolding book
   one_book = taken k [] (Add card 0) (eq-eqb _ 0 first_due)
 
@@ -84,18 +84,18 @@ module _ (k : Issuer) where
   unfolding is_of holds
   one_held = ap (holds card 0) one_book ∙ ap (λ (x : Bool). x || false) (card_refl card 0)
 
-  one_last : last_of card 0 (book k one) ≡ none
+  one_last : last_of card 0 (book k one) ≡ None
   unfolding is_of last_of
-  one_last = ap (last_of card 0) one_book ∙ ap (λ (x : Bool). cond x none none) (card_refl card 0)
+  one_last = ap (last_of card 0) one_book ∙ ap (λ (x : Bool). cond x None None) (card_refl card 0)
 
   once_due : due_after k one check ≡ 0
-  once_due = check_due (book k one) none one_held one_last
+  once_due = check_due (book k one) None one_held one_last
 
   again_due : due_after k (check ∷ one) check ≡ 23
   again_due =
       let n = counter_of sent in
       let e = taken k one check (eq-eqb _ 0 once_due) in
-      check_due (book k (check ∷ one)) (some n) (ap (holds card 0) e ∙ kept_holds card 0 n card 0 (book k one) ∙ one_held)
+      check_due (book k (check ∷ one)) (Some n) (ap (holds card 0) e ∙ kept_holds card 0 n card 0 (book k one) ∙ one_held)
       (ap (last_of card 0) e ∙ kept_own card 0 n (book k one) one_held)
       ∙ ap (λ (x : Bool). cond x 0 23) (le-ltb n n (omega arith))
 
@@ -116,7 +116,7 @@ adds_of (suc n) = Add card n ∷ adds_of n
 
 cards_of : ℕ → List Holding
 cards_of zero = []
-cards_of (suc n) = record { pan = card; sequence = n; last = none } ∷ cards_of n
+cards_of (suc n) = record { pan = card; sequence = n; last = None } ∷ cards_of n
 
 cards_length : (n : ℕ) → length (cards_of n) ≡ n
 unfolding cards_of

@@ -1,7 +1,6 @@
 -- The book of a desk: which cards it has to hold after some calls, each with its last counter, read off the calls alone; and what each call has to be
 -- answered by that book (Wish 7). No definition of the desk is used. Assumes nothing.
-use Rattle.std.specs.Prelude.{ℕ, ◌+◌, Bool, true, false, not, ◌&&◌, ◌||◌, cond, List, [], ◌∷◌, ◌++◌, eqb, leb, ltb, length, take, drop, replicate}
-use Rattle.std.proofs.Math.Option.{Option, none, some}
+use Rattle.std.specs.Prelude.{ℕ, ◌+◌, Bool, true, false, not, ◌&&◌, ◌||◌, cond, List, [], ◌∷◌, ◌++◌, eqb, leb, ltb, length, take, drop, replicate, Option, None, Some}
 use Rattle.answers.specs.declared.Refusal.{Refusal}
 use Rattle.answers.specs.declared.Refusal.TheVariants.{Input, CardNumber, NoRoom, PinDigits, UnknownCard, AlreadyHeld, TableFull, ArqcDiffers, CounterNotAbove}
 use Rattle.answers.specs.Refusals.{number}
@@ -33,7 +32,7 @@ holds pan q (h ∷ b) = is_of pan q h || holds pan q b
 
 -- the last counter of a card, none where there is none or the card is not held
 unfoldable pub last_of : List ℕ → ℕ → List Holding → Option ℕ
-last_of pan q [] = none
+last_of pan q [] = None
 last_of pan q (h ∷ b) = cond (is_of pan q h) h.last (last_of pan q b)
 
 -- a card struck out, and a counter kept for a card
@@ -43,7 +42,7 @@ without pan q (h ∷ b) = cond (is_of pan q h) (without pan q b) (h ∷ without 
 
 unfoldable pub with_last : List ℕ → ℕ → ℕ → List Holding → List Holding
 with_last pan q n [] = []
-with_last pan q n (h ∷ b) = cond (is_of pan q h) (record { pan = h.pan; sequence = h.sequence; last = some n }) h ∷ with_last pan q n b
+with_last pan q n (h ∷ b) = cond (is_of pan q h) (record { pan = h.pan; sequence = h.sequence; last = Some n }) h ∷ with_last pan q n b
 
 -- "It derives the keys": a card's master key from one of the issuer's
 unfoldable pub master_for : Issuer → List ℕ → List ℕ → ℕ → List ℕ
@@ -62,8 +61,8 @@ arqc_for k pan q m = cryptogram_of (session_for k pan q m) Arqc (counter_of m) m
 
 -- "requires that counter above the last one, if any"
 abbrev pub is_above : ℕ → Option ℕ → Bool
-is_above n none = true
-is_above n (some l) = ltb l n
+is_above n None = true
+is_above n (Some l) = ltb l n
 
 -- "wraps PIN, block and unblock commands under the cryptogram that the caller names": header and message
 unfoldable pub is_command : ℕ → Bool
@@ -121,7 +120,7 @@ leaves (Wrap pan q i g pin buffer place) = buffer
 
 -- what an accepted call does to the book: "A forgotten card added again starts with no last counter"
 abbrev pub writes : DeskCall → List Holding → List Holding
-writes (Add pan q) b = record { pan = pan; sequence = q; last = none } ∷ b
+writes (Add pan q) b = record { pan = pan; sequence = q; last = None } ∷ b
 writes (Forget pan q) b = without pan q b
 writes (Check pan q m arqc csu) b = with_last pan q (counter_of m) b
 writes (Wrap pan q i g pin buffer place) b = b

@@ -2,8 +2,9 @@
 use Rattle.std.specs.Prelude.{ℕ, Bool, List, [], ◌∷◌, replicate}
 use Rattle.table.specs.Calls.{empty}
 use Rattle.desk.specs.declared.Desk.{Desk}
-use Rattle.desk.specs.Desk.{adds, forgets}
-use Rattle.desk.specs.Check.{checks}
+use Rattle.answers.specs.Answers.{number_told}
+use Rattle.desk.specs.Desk.{adds, forgets, desk_after}
+use Rattle.desk.specs.Check.{checks, after_check}
 use Rattle.desk.specs.Wrap.{wraps}
 
 -- what a desk is set up with: "the issuer's three master keys and, once for all its cards, whether card digits are taken by pairs or packed"
@@ -46,15 +47,15 @@ abbrev pub empty_desk : Issuer → Desk
 empty_desk k = record { ac = k.ac; smi = k.smi; smc = k.smc; packed = k.packed; places = replicate 64 empty }
 
 abbrev pub our_answer : Desk → DeskCall → DeskAnswer
-our_answer d (Add pan q) = record { number = (adds d pan q).code; bytes = [] }
-our_answer d (Forget pan q) = record { number = (forgets d pan q).code; bytes = [] }
-our_answer d (Check pan q m arqc csu) = record { number = (checks d pan q m arqc csu).code; bytes = (checks d pan q m arqc csu).arpc }
+our_answer d (Add pan q) = record { number = number_told (adds d pan q); bytes = [] }
+our_answer d (Forget pan q) = record { number = number_told (forgets d pan q); bytes = [] }
+our_answer d (Check pan q m arqc csu) = let r = checks d pan q m arqc csu in record { number = number_told r; bytes = (after_check r d).arpc }
 our_answer d (Wrap pan q i g pin b place) = record { number = (wraps d pan q i g pin b place).code; bytes = (wraps d pan q i g pin b place).buffer }
 
 abbrev pub our_next : Desk → DeskCall → Desk
-our_next d (Add pan q) = (adds d pan q).desk
-our_next d (Forget pan q) = (forgets d pan q).desk
-our_next d (Check pan q m arqc csu) = (checks d pan q m arqc csu).desk
+our_next d (Add pan q) = desk_after (adds d pan q) d
+our_next d (Forget pan q) = desk_after (forgets d pan q) d
+our_next d (Check pan q m arqc csu) = (after_check (checks d pan q m arqc csu) d).desk
 our_next d (Wrap pan q i g pin b place) = d
 
 abbrev pub our_desk : AnyDesk

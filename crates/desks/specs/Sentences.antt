@@ -1,13 +1,13 @@
 -- Wish 7's sentences, each of the book after any run, and so of every desk that is as demanded: a call is accepted where its number is 0. Assumes nothing.
-use Rattle.std.specs.Prelude.{ℕ, ◌+◌, ◌<◌, ◌≤◌, ◌≡◌, ◌↔◌, Bool, true, false, not, ◌&&◌, ◌||◌, cond, List, [], ◌∷◌, ◌++◌, eqb, length}
-use Rattle.std.proofs.Math.Option.{Option, none, some}
+use Rattle.std.specs.Prelude.{ℕ, ◌+◌, ◌<◌, ◌≤◌, ◌≡◌, ◌↔◌, Bool, true, false, not, ◌&&◌, ◌||◌, cond, List, [], ◌∷◌, ◌++◌, eqb, length, Option, None, Some}
 use Rattle.octets.specs.Same.{same}
 use Rattle.keys.specs.CardNumber.{card_fits}
 use Rattle.table.specs.Table.{readings, held_count}
 use Rattle.pin.specs.PinBlock.{pin_fits}
 use Rattle.desk.specs.declared.Desk.{Desk}
-use Rattle.desk.specs.Desk.{id_of, adds, forgets}
-use Rattle.desk.specs.Check.{checks}
+use Rattle.answers.specs.Answers.{number_told}
+use Rattle.desk.specs.Desk.{id_of, adds, forgets, desk_after}
+use Rattle.desk.specs.Check.{checks, after_check}
 use Rattle.desk.specs.Wrap.{wraps}
 use Rattle.desks.specs.Run.{Issuer, DeskCall, Add, Forget, Check, Wrap, reached, our_desk}
 use Rattle.desks.specs.Book.{Holding, holds, last_of, counter_of, arqc_for, is_command, script_for, book, due_after}
@@ -49,10 +49,10 @@ last_was_add k pan q (c ∷ cs) =
 
 -- the counter of the last accepted checking of a card since its last accepted adding or forgetting
 abbrev pub last_checked : Issuer → List ℕ → ℕ → List DeskCall → Option ℕ
-last_checked k pan q [] = none
+last_checked k pan q [] = None
 last_checked k pan q (c ∷ cs) =
-    cond (accepted k cs c && (is_add pan q c || is_forget pan q c)) none
-    (cond (accepted k cs c && is_check pan q c) (some (its_counter c)) (last_checked k pan q cs))
+    cond (accepted k cs c && (is_add pan q c || is_forget pan q c)) None
+    (cond (accepted k cs c && is_check pan q c) (Some (its_counter c)) (last_checked k pan q cs))
 
 -- no accepted forgetting of a card in some calls that follow others
 abbrev pub never_forgot : Issuer → List ℕ → ℕ → List DeskCall → List DeskCall → Bool
@@ -84,7 +84,7 @@ pub record Right (k : Issuer) (cs : List DeskCall) (pan : List ℕ) (q : ℕ) (m
   pub fits : card_fits pan q ≡ true
   pub held : last_was_add k pan q cs ≡ true
   pub its_arqc : arqc_for k pan q m ≡ arqc
-  pub above : (l : ℕ) → last_checked k pan q cs ≡ some l → l < counter_of m
+  pub above : (l : ℕ) → last_checked k pan q cs ≡ Some l → l < counter_of m
 
 abbrev pub CheckExactly : Type 0
 CheckExactly =
@@ -103,7 +103,7 @@ pub record Numbered (k : Issuer) (cs : List DeskCall) (pan : List ℕ) (q : ℕ)
   pub check_22 : (m arqc csu : List ℕ) → is_long m arqc csu ≡ true → card_fits pan q ≡ true → last_was_add k pan q cs ≡ true → (arqc_for k pan q m ≡ arqc → ⊥)
       → due_after k cs (Check pan q m arqc csu) ≡ 22
   pub check_23 : (m arqc csu : List ℕ) (l : ℕ) → is_long m arqc csu ≡ true → card_fits pan q ≡ true → last_was_add k pan q cs ≡ true → arqc_for k pan q m ≡ arqc
-      → last_checked k pan q cs ≡ some l → counter_of m ≤ l → due_after k cs (Check pan q m arqc csu) ≡ 23
+      → last_checked k pan q cs ≡ Some l → counter_of m ≤ l → due_after k cs (Check pan q m arqc csu) ≡ 23
   pub wrap_1 : (i : ℕ) (g pin b : List ℕ) (place : ℕ) → (is_command i && eqb (length g) 8) ≡ false → due_after k cs (Wrap pan q i g pin b place) ≡ 1
   pub wrap_2 : (i : ℕ) (g pin b : List ℕ) (place : ℕ) → (is_command i && eqb (length g) 8) ≡ true → card_fits pan q ≡ false
       → due_after k cs (Wrap pan q i g pin b place) ≡ 2
@@ -120,9 +120,9 @@ EachNumbered = (k : Issuer) (cs : List DeskCall) (pan : List ℕ) (q : ℕ) → 
 
 -- "a refusal changes no entry", of every desk, whatever its table holds, and no byte of a lent buffer
 pub record Leaves (d : Desk) : Type 0 where
-  pub adding : (pan : List ℕ) (q : ℕ) → ((adds d pan q).code ≡ 0 → ⊥) → (adds d pan q).desk ≡ d
-  pub forgetting : (pan : List ℕ) (q : ℕ) → ((forgets d pan q).code ≡ 0 → ⊥) → (forgets d pan q).desk ≡ d
-  pub checking : (pan : List ℕ) (q : ℕ) (m arqc csu : List ℕ) → ((checks d pan q m arqc csu).code ≡ 0 → ⊥) → (checks d pan q m arqc csu).desk ≡ d
+  pub adding : (pan : List ℕ) (q : ℕ) → (number_told (adds d pan q) ≡ 0 → ⊥) → desk_after (adds d pan q) d ≡ d
+  pub forgetting : (pan : List ℕ) (q : ℕ) → (number_told (forgets d pan q) ≡ 0 → ⊥) → desk_after (forgets d pan q) d ≡ d
+  pub checking : (pan : List ℕ) (q : ℕ) (m arqc csu : List ℕ) → (number_told (checks d pan q m arqc csu) ≡ 0 → ⊥) → (after_check (checks d pan q m arqc csu) d).desk ≡ d
   pub wrapping : (pan : List ℕ) (q i : ℕ) (g pin b : List ℕ) (place : ℕ) → ((wraps d pan q i g pin b place).code ≡ 0 → ⊥) → (wraps d pan q i g pin b place).buffer ≡ b
 
 abbrev pub RefusalLeaves : Type 0

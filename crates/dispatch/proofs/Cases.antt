@@ -15,7 +15,7 @@ use Rattle.shapes.specs.Shape.{length_of_under, place_of_under, tag_fits, code_h
 use Rattle.shapes.specs.Command.{header_of, tag_for, length_for, is_for, listed, first_of}
 use Rattle.pin.specs.PinBlock.{pin_fits, nibbles, well_formed, pin_of}
 use Rattle.pin.specs.CounterBlock.{counters_of}
-use Rattle.pin.specs.Answers.{found, no_pin, read_block}
+use Rattle.pin.specs.Answers.{found, read_block}
 use Rattle.transaction.specs.Transaction.{pending_fits, rest_fits}
 use Rattle.card.specs.Record.{sound}
 use Rattle.card.specs.Calls.{judged_under, due_under, after_under, plain, CheckPin, step, judged_script}
@@ -53,7 +53,7 @@ surplus_stays h l f b s r o m n = rw (r, o, ne_eqb f 0 (λ z. omega arith)) (go 
     go false e = rw e
 
 pub trace_cases : TraceCases
-unfolding largest largest_short length_field field_says length_of_under place_of_under tag_fits code_head body_under body_size_under tag_of data_of_under body_of_under code_in_under shape_under header_of tag_for length_for is_for listed first_of judged_script be le same digits hex_digit hex_octet hex_value pin_fits nibbles well_formed pin_of counters_of found no_pin read_block pending_fits rest_fits sound judged_under due_under after_under personalised lines_from legible octet_of octets_of hexadecimal readable_under hex_text line_for octets_for replied part personalised_by_under starts overlong called_under calling_under framed_under answer_to_under answers_under traced_under
+unfolding largest largest_short length_field field_says length_of_under place_of_under tag_fits code_head body_under body_size_under tag_of data_of_under body_of_under code_in_under shape_under header_of tag_for length_for is_for listed first_of judged_script be le same digits hex_digit hex_octet hex_value pin_fits nibbles well_formed pin_of counters_of found read_block pending_fits rest_fits sound judged_under due_under after_under personalised lines_from legible octet_of octets_of hexadecimal readable_under hex_text line_for octets_for replied part personalised_by_under starts overlong called_under calling_under framed_under answer_to_under answers_under traced_under
 trace_cases =
     record {
       whole = refl;

@@ -12,8 +12,8 @@ use Rattle.answers.specs.declared.Refusal.TheVariants.{Input, ShapeWrong, PhaseW
 use Rattle.answers.specs.Refusals.{number}
 use Rattle.octets.specs.Same.{same}
 use Rattle.pin.specs.Answers.{read_block, decipher_pin}
-use Rattle.shapes.specs.declared.command.Listed.{Listed}
-use Rattle.shapes.specs.declared.command.Listed.TheVariants.{One, Unlisted}
+use Rattle.shapes.specs.declared.command.Command.{Command}
+use Rattle.std.specs.Prelude.{Result, Ok, Err, is_err}
 use Rattle.shapes.specs.Shape.{length_of, tag_of, shape}
 use Rattle.shapes.specs.Command.{command_of}
 use Rattle.shapes.proofs.CommandLaws.{why_unlisted_lem}
@@ -44,9 +44,9 @@ as_thirteen accept = false
 not_unlisted : (h : List ℕ) (tag n : ℕ) → thirteen (number (why_unlisted (command_of h tag n))) ≡ false
 not_unlisted h tag n = go (command_of h tag n) refl
   where
-    go : (l : Listed) → command_of h tag n ≡ l → thirteen (number (why_unlisted l)) ≡ false
-    go (One c) e = refl
-    go (Unlisted q) e = ap (λ (w : Refusal). thirteen (number w)) (why_unlisted_lem h tag n q e)
+    go : (l : Result Command Refusal) → command_of h tag n ≡ l → thirteen (number (why_unlisted l)) ≡ false
+    go (Ok c) e = refl
+    go (Err q) e = ap (λ (w : Refusal). thirteen (number w)) (why_unlisted_lem h tag n q e)
 
 two : (a b : Bool) (q w : Refusal) → thirteen (number q) ≡ false → thirteen (number w) ≡ false
     → as_thirteen (first_struck (strikes a q ∷ strikes b w ∷ [])) ≡ false
@@ -89,7 +89,7 @@ not_judged r Close = two (not (is_open r.transaction.phase)) r.transaction.spoil
 not_judged r Withdraw = refl
 not_judged r (CheckPin b) =
     six (not (is_open r.transaction.phase)) (not (eqb (length b) 8)) (eqb r.tries 0) (eqb r.counters.decipherments 65535)
-    (not (eqb (decipher_pin (smc_key r) b).code 0)) (not (is_kept r (decipher_pin (smc_key r) b)))
+    (is_err (decipher_pin (smc_key r) b)) (not (is_kept r (decipher_pin (smc_key r) b)))
   where
     six : (o l t f p k : Bool)
         → as_thirteen
@@ -129,7 +129,7 @@ not_loaded : (x : Loading) → thirteen (personalised_with x).code ≡ false
 unfolding personalised
 not_loaded x =
     go (loading x.mark x.block x.tries)
-    (three (not (leb x.mark 1)) (not (leb x.tries full_tries)) (not (eqb (read_block x.block).code 0)) Input Input PinFormat refl refl refl)
+    (three (not (leb x.mark 1)) (not (leb x.tries full_tries)) (is_err (read_block x.block)) Input Input PinFormat refl refl refl)
   where
     go : (v : Verdict) → as_thirteen v ≡ false → thirteen (loaded_by (fresh x.ac x.smi x.smc x.atc x.counters x.mark x.block x.tries) v).code ≡ false
     go (refuse q) e = e

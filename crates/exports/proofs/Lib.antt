@@ -2,3 +2,4 @@ pub mod GiveLaws
 pub mod OpenLaws
 pub mod TemplateLaws
 pub mod DeskCases
+pub mod TemplateGiven

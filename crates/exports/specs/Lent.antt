@@ -1,75 +1,79 @@
 -- How an answer reaches the slice that a caller lends for it. Assumes nothing.
-use Rattle.std.specs.Prelude.{ℕ, ◌≡◌, ◌&&◌, cond, List, ◌∷◌, eqb, length, take}
+use Rattle.std.specs.Prelude.{ℕ, ◌≡◌, ◌&&◌, cond, List, [], ◌∷◌, eqb, length, take, Option, Some, None, Result, Ok, Err}
+use Rattle.std.specs.Result.{result_unwrap_or}
+use Rattle.answers.specs.declared.Refusal.{Refusal}
 use Rattle.answers.specs.declared.Refusal.TheVariants.{Input}
-use Rattle.answers.specs.declared.BlockAnswer.{BlockAnswer}
 use Rattle.answers.specs.Refusals.{number}
-use Rattle.answers.specs.Answers.{no_block}
-use Rattle.cipher.specs.declared.CodeAnswer.{CodeAnswer}
-use Rattle.answers.specs.declared.KeyAnswer.{KeyAnswer}
-use Rattle.pin.specs.declared.PinRead.{PinRead}
-use Rattle.cryptogram.specs.declared.KindRead.{KindRead}
-use Rattle.cryptogram.specs.declared.KindRead.TheVariants.{Known, Unknown}
+use Rattle.answers.specs.Answers.{number_told}
+use Rattle.pin.specs.declared.Pin.{Pin}
+use Rattle.cryptogram.specs.declared.Kind.{Kind}
 use Rattle.cryptogram.specs.Answers.{cryptogram_answer}
-use Rattle.shapes.specs.declared.Opened.{Opened}
-use Rattle.shapes.specs.Answers.{opened_number, opened_values}
+use Rattle.shapes.specs.declared.Found.{Found}
 use Rattle.octets.specs.Numbers.{be_octets}
+use Rattle.templates.specs.declared.Fault.{Fault}
 use Rattle.templates.specs.declared.Read.{Read}
 use Rattle.templates.specs.Lent.{laid_objects}
 use Rattle.scripts.specs.Writing.{write_number, write_size, write_after}
 
 -- the number returned: 1 for a lent slice that is not n bytes long, else the answer's own
-unfoldable pub number_of : ℕ → ℕ → List ℕ → ℕ
-number_of n code lent = cond (eqb (length lent) n) code (number Input)
+unfoldable pub number_of : ℕ → Result (List ℕ) Refusal → List ℕ → ℕ
+number_of n answer lent = cond (eqb (length lent) n) (number_told answer) (number Input)
 
 -- the slice afterwards: the answer's bytes where it is accepted, and as it was where it is refused
-unfoldable pub bytes_after : ℕ → ℕ → List ℕ → List ℕ → List ℕ
-bytes_after n code bytes lent = cond (eqb (length lent) n && eqb code 0) bytes lent
+unfoldable pub bytes_after : ℕ → Result (List ℕ) Refusal → List ℕ → List ℕ
+bytes_after n answer lent = cond (eqb (length lent) n) (result_unwrap_or answer lent) lent
 
 -- an answer of n bytes, given to a lent slice: r is returned, and the slice is `after`
-pub record Given (n code : ℕ) (bytes lent : List ℕ) (r : ℕ) (after : List ℕ) : Type 0 where
-  pub number : r ≡ number_of n code lent
-  pub slice : after ≡ bytes_after n code bytes lent
+pub record Given (n : ℕ) (answer : Result (List ℕ) Refusal) (lent : List ℕ) (r : ℕ) (after : List ℕ) : Type 0 where
+  pub number : r ≡ number_of n answer lent
+  pub slice : after ≡ bytes_after n answer lent
 
--- the same of a key, of a block, and of a code
-abbrev pub GivenKey : KeyAnswer → List ℕ → ℕ → List ℕ → Type 0
-GivenKey a lent r after = Given 32 a.code a.bytes lent r after
-
-abbrev pub GivenBlock : BlockAnswer → List ℕ → ℕ → List ℕ → Type 0
-GivenBlock a lent r after = Given 8 a.code a.bytes lent r after
-
-abbrev pub GivenCode : CodeAnswer → List ℕ → ℕ → List ℕ → Type 0
-GivenCode a lent r after = Given 4 a.code a.bytes lent r after
+-- an answer whose value is given as bytes
+abbrev pub as_bytes : {T : Type 0} → (T → List ℕ) → Result T Refusal → Result (List ℕ) Refusal
+as_bytes f (Ok x) = Ok (f x)
+as_bytes f (Err q) = Err q
 
 -- an IDN has as many bytes as the slice lent for it
-abbrev pub GivenIdn : BlockAnswer → List ℕ → ℕ → List ℕ → Type 0
-GivenIdn a lent r after = Given (length lent) a.code (take (length lent) a.bytes) lent r after
+abbrev pub GivenIdn : Result (List ℕ) Refusal → List ℕ → ℕ → List ℕ → Type 0
+GivenIdn a lent r after = Given (length lent) (as_bytes (take (length lent)) a) lent r after
 
 -- what a PIN block holds: the number of digits, then the twelve places
-abbrev pub GivenRead : PinRead → List ℕ → ℕ → List ℕ → Type 0
-GivenRead a lent r after = Given 13 a.code (a.count ∷ a.pin) lent r after
+abbrev pub pin_bytes : Pin → List ℕ
+pin_bytes p = p.count ∷ p.digits
+
+abbrev pub GivenRead : Result Pin Refusal → List ℕ → ℕ → List ℕ → Type 0
+GivenRead a lent r after = Given 13 (as_bytes pin_bytes a) lent r after
 
 -- a cryptogram whose kind is named by number: 1 for an unknown one
-unfoldable pub by_number : List ℕ → KindRead → ℕ → List ℕ → BlockAnswer
-by_number key (Known kind) atc d = cryptogram_answer key kind atc d
-by_number key Unknown atc d = no_block (number Input)
+unfoldable pub by_number : List ℕ → Option Kind → ℕ → List ℕ → Result (List ℕ) Refusal
+by_number key (Some kind) atc d = cryptogram_answer key kind atc d
+by_number key None atc d = Err Input
 
 -- a message opened: its tag, and the place and length of its data
-abbrev pub GivenOpened : Opened → List ℕ → ℕ → List ℕ → Type 0
-GivenOpened o lent r after = Given 3 (opened_number o) (opened_values o) lent r after
+abbrev pub found_bytes : Found → List ℕ
+found_bytes f = f.tag ∷ f.place ∷ f.length ∷ []
 
--- script templates: the objects, ten bytes each, zeros after the last
+abbrev pub GivenOpened : Result Found Refusal → List ℕ → ℕ → List ℕ → Type 0
+GivenOpened o lent r after = Given 3 (as_bytes found_bytes o) lent r after
+
+-- script templates: the objects, ten bytes each, zeros after the last; or why the first at fault is refused
+abbrev pub unless : Option Fault → List ℕ → Result (List ℕ) Refusal
+unless None bytes = Ok bytes
+unless (Some f) bytes = Err f.why
+
 abbrev pub GivenObjects : Read → List ℕ → ℕ → List ℕ → Type 0
-GivenObjects a lent r after = Given 320 a.code (laid_objects a.objects) lent r after
+GivenObjects a lent r after = Given 320 (unless a.fault (laid_objects a.objects)) lent r after
 
 -- where the object at fault begins; 1 where none is
-unfoldable pub fault_number : Read → ℕ
-fault_number a = cond (eqb a.code 0) (number Input) 0
+abbrev pub fault_place : Option Fault → Result (List ℕ) Refusal
+fault_place (Some f) = Ok (be_octets 4 f.at)
+fault_place None = Err Input
 
 abbrev pub GivenFault : Read → List ℕ → ℕ → List ℕ → Type 0
-GivenFault a lent r after = Given 4 (fault_number a) (be_octets 4 a.at) lent r after
+GivenFault a lent r after = Given 4 (fault_place a.fault) lent r after
 
 -- script templates written from objects b, whose data lie in the source s, into the buffer o at a place: 1 for a slice for the size that is not of 4 bytes
 pub record GivenTemplates (b s o : List ℕ) (place : ℕ) (size : List ℕ) (r : ℕ) (o-after size-after : List ℕ) : Type 0 where
-  pub number : r ≡ number_of 4 (write_number b s o place) size
+  pub number : r ≡ cond (eqb (length size) 4) (write_number b s o place) (number Input)
   pub buffer : o-after ≡ cond (eqb (length size) 4) (write_after b s o place) o
-  pub slice : size-after ≡ bytes_after 4 (write_number b s o place) (be_octets 4 (write_size b s o place)) size
+  pub slice : size-after ≡ cond (eqb (length size) 4 && eqb (write_number b s o place) 0) (be_octets 4 (write_size b s o place)) size

@@ -2,14 +2,14 @@
 // caller lends. A lent slice of another length than the answer's is 1, and a refusal leaves it as it was.
 #![tactic(auto)]
 
-ghost use Rattle.std.specs.Prelude.{◌≡◌, length};
+ghost use Rattle.std.specs.Prelude.{◌≡◌, length, Ok};
 ghost use Rattle.cipher.specs.Answers.{enciphered, deciphered, coded};
 ghost use Rattle.derive.specs.Answers.{card_derivation};
 ghost use Rattle.keys.specs.Answers.{card_key, card_key_packed, session_key, script_key, counter_key, idn_answer};
 ghost use Rattle.cards.specs.Cards.{cards_number, cards_after};
 ghost use Rattle.pin.specs.Answers.{write_pin, read_pin};
 ghost use Rattle.cryptogram.specs.Answers.{kind_of, arpc_answer};
-ghost use Rattle.exports.specs.Lent.{Given, GivenKey, GivenBlock, GivenCode, GivenIdn, GivenRead, GivenOpened, GivenObjects, GivenFault, GivenTemplates, by_number};
+ghost use Rattle.exports.specs.Lent.{Given, GivenIdn, GivenRead, GivenOpened, GivenObjects, GivenFault, GivenTemplates, by_number, pin_bytes};
 ghost use Rattle.message.specs.Answers.{opened, wrapped, Wrote};
 ghost use Rattle.templates.specs.Reading.{reading};
 ghost use Rattle.hash.specs.States.{hash_way, begun, ended};
@@ -19,86 +19,71 @@ ghost use Rattle.parts.specs.Forms.{hash_in, hash_form, mac_in, mac_form, code_i
 ghost use Rattle.parts.specs.Lent.{begun_number, begun_after, fed_number, fed_after, ended_number, ended_after};
 ghost use Rattle.stored.specs.Lent.{AddedIn, ForgottenIn, CheckedIn, wraps_in};
 
-use answers::Refusal;
-use cryptogram::KindRead;
-use message::Opened;
+use answers::{Refusal, number_told};
+use pin::Pin;
 
-// An answer's bytes to the slice lent for them.
-fn give(code: u8, bytes: &[u8], out: &mut [u8]) -> u8
-    ensures { Given (length bytes.now) code bytes.now out.old result out.new }
+// An answer's bytes to the slice lent for them, or its refusal's number.
+fn give<const N: usize>(answer: Result<[u8; N], Refusal>, out: &mut [u8]) -> u8
+    ensures { Given N answer.entry out.old result out.new }
 {
-    if out.len() != bytes.len() {
-        return Refusal::INPUT;
+    if out.len() != N {
+        return Refusal::Input.number();
     }
-    if code != 0 {
-        return code;
+    match answer {
+        Ok(bytes) => {
+            out.copy_from_slice(&bytes);
+            0
+        }
+        Err(why) => why.number(),
     }
-    let mut i = 0;
-    while i < bytes.len() {
-        out[i] = bytes[i];
-        i += 1;
-    }
-    0
 }
 
 // A block of 8 bytes enciphered under a key of 32. 1: a length.
 #[unsafe(no_mangle)]
 pub extern "C" fn box_encipher(key: &[u8], block: &[u8], out: &mut [u8]) -> u8
-    ensures { GivenBlock (enciphered key.now block.now) out.old result out.new }
+    ensures { Given 8 (enciphered key.now block.now) out.old result out.new }
 {
-    let r = cipher::encipher(key, block);
-    let bytes = r.bytes;
-    give(r.code, &bytes, out)
+    give(cipher::encipher(key, block), out)
 }
 
 // A block of 8 bytes deciphered under a key of 32. 1: a length.
 #[unsafe(no_mangle)]
 pub extern "C" fn box_decipher(key: &[u8], block: &[u8], out: &mut [u8]) -> u8
-    ensures { GivenBlock (deciphered key.now block.now) out.old result out.new }
+    ensures { Given 8 (deciphered key.now block.now) out.old result out.new }
 {
-    let r = cipher::decipher(key, block);
-    let bytes = r.bytes;
-    give(r.code, &bytes, out)
+    give(cipher::decipher(key, block), out)
 }
 
 // The 4-byte code of one or more whole blocks of 8 bytes under a key of 32. 1: a length.
 #[unsafe(no_mangle)]
 pub extern "C" fn box_code(key: &[u8], string: &[u8], out: &mut [u8]) -> u8
-    ensures { GivenCode (coded key.now string.now) out.old result out.new }
+    ensures { Given 4 (coded key.now string.now) out.old result out.new }
 {
-    let r = cipher::code(key, string);
-    let bytes = r.bytes;
-    give(r.code, &bytes, out)
+    give(cipher::code(key, string), out)
 }
 
 // The key derived from a key of 32 bytes and a seed of 8. 1: a length.
 #[unsafe(no_mangle)]
 pub extern "C" fn box_derive(key: &[u8], seed: &[u8], out: &mut [u8]) -> u8
-    ensures { GivenKey (card_derivation key.now seed.now) out.old result out.new }
+    ensures { Given 32 (card_derivation key.now seed.now) out.old result out.new }
 {
-    let r = derive::derive(key, seed);
-    let bytes = r.bytes;
-    give(r.code, &bytes, out)
+    give(derive::derive(key, seed), out)
 }
 
 // The card master key of an issuer's key, a card number (one digit a byte) and a sequence number (0: none). 1: a length; 2: the card.
 #[unsafe(no_mangle)]
 pub extern "C" fn box_card_key(issuer: &[u8], pan: &[u8], sequence: u8, out: &mut [u8]) -> u8
-    ensures { GivenKey (card_key issuer.now pan.now sequence) out.old result out.new }
+    ensures { Given 32 (card_key issuer.now pan.now sequence) out.old result out.new }
 {
-    let r = keys::card_key(issuer, pan, sequence);
-    let bytes = r.bytes;
-    give(r.code, &bytes, out)
+    give(keys::card_key(issuer, pan, sequence), out)
 }
 
 // The same with the card digits as packed decimal.
 #[unsafe(no_mangle)]
 pub extern "C" fn box_card_key_packed(issuer: &[u8], pan: &[u8], sequence: u8, out: &mut [u8]) -> u8
-    ensures { GivenKey (card_key_packed issuer.now pan.now sequence) out.old result out.new }
+    ensures { Given 32 (card_key_packed issuer.now pan.now sequence) out.old result out.new }
 {
-    let r = keys::card_key_packed(issuer, pan, sequence);
-    let bytes = r.bytes;
-    give(r.code, &bytes, out)
+    give(keys::card_key_packed(issuer, pan, sequence), out)
 }
 
 // The card master keys of many cards under one issuer's key, which is set up once. A card is 21 bytes: the number of digits, nineteen
@@ -108,37 +93,31 @@ pub extern "C" fn box_card_keys(issuer: &[u8], day: &[u8], out: &mut [u8]) -> u8
     ensures { (result ≡ cards_number issuer.now day.now out.old)
         × (out.new ≡ cards_after issuer.now day.now out.old) }
 {
-    cards::card_keys(issuer, day, out)
+    number_told(&cards::card_keys(issuer, day, out))
 }
 
 // The session key for cryptograms, from the master key and the transaction counter. 1: a length.
 #[unsafe(no_mangle)]
 pub extern "C" fn box_session_key(master: &[u8], counter: u16, out: &mut [u8]) -> u8
-    ensures { GivenKey (session_key master.now counter) out.old result out.new }
+    ensures { Given 32 (session_key master.now counter) out.old result out.new }
 {
-    let r = keys::session_key(master, counter);
-    let bytes = r.bytes;
-    give(r.code, &bytes, out)
+    give(keys::session_key(master, counter), out)
 }
 
 // The session key for scripts, from the master key SMI or SMC and the cryptogram of 8 bytes. 1: a length.
 #[unsafe(no_mangle)]
 pub extern "C" fn box_script_key(master: &[u8], cryptogram: &[u8], out: &mut [u8]) -> u8
-    ensures { GivenKey (script_key master.now cryptogram.now) out.old result out.new }
+    ensures { Given 32 (script_key master.now cryptogram.now) out.old result out.new }
 {
-    let r = keys::script_key(master, cryptogram);
-    let bytes = r.bytes;
-    give(r.code, &bytes, out)
+    give(keys::script_key(master, cryptogram), out)
 }
 
 // The key for counter blocks, from the session key for cryptograms. 1: a length.
 #[unsafe(no_mangle)]
 pub extern "C" fn box_counter_key(session: &[u8], out: &mut [u8]) -> u8
-    ensures { GivenKey (counter_key session.now) out.old result out.new }
+    ensures { Given 32 (counter_key session.now) out.old result out.new }
 {
-    let r = keys::counter_key(session);
-    let bytes = r.bytes;
-    give(r.code, &bytes, out)
+    give(keys::counter_key(session), out)
 }
 
 // The IDN of as many bytes as the slice lent for it has, 2 to 8, under an IDN key. 1: a length.
@@ -148,21 +127,33 @@ pub extern "C" fn box_idn(key: &[u8], counter: u16, out: &mut [u8]) -> u8
 {
     let n = out.len();
     if n > 8 {
-        return Refusal::INPUT;
+        return Refusal::Input.number();
     }
-    let r = keys::idn(key, counter, n as u8);
-    let bytes = r.bytes;
-    give(r.code, &bytes[..n], out)
+    match keys::idn(key, counter, n as u8) {
+        Ok(bytes) => {
+            out.copy_from_slice(&bytes[..n]);
+            0
+        }
+        Err(why) => why.number(),
+    }
 }
 
 // A PIN block in clear of 4 to 12 digits, one a byte. 1: the slice; 12: the PIN.
 #[unsafe(no_mangle)]
 pub extern "C" fn box_write_pin(pin: &[u8], out: &mut [u8]) -> u8
-    ensures { GivenBlock (write_pin pin.now) out.old result out.new }
+    ensures { Given 8 (write_pin pin.now) out.old result out.new }
 {
-    let r = pin::write_pin(pin);
-    let bytes = r.bytes;
-    give(r.code, &bytes, out)
+    give(pin::write_pin(pin), out)
+}
+
+// What a PIN block holds, as bytes: the number of digits, then twelve places.
+fn pin_bytes(pin: Pin) -> [u8; 13]
+    ensures { result ≡ pin_bytes pin }
+{
+    let mut out = [0; 13];
+    out[0] = pin.count;
+    out[1..].copy_from_slice(&pin.digits);
+    out
 }
 
 // A PIN block in clear, of 8 bytes, taken apart: the number of digits, then twelve places. 1: a length; 9: the format.
@@ -170,36 +161,29 @@ pub extern "C" fn box_write_pin(pin: &[u8], out: &mut [u8]) -> u8
 pub extern "C" fn box_read_pin(block: &[u8], out: &mut [u8]) -> u8
     ensures { GivenRead (read_pin block.now) out.old result out.new }
 {
-    let r = pin::read_pin(block);
-    let p = r.pin;
-    let bytes = [
-        r.count, p[0], p[1], p[2], p[3], p[4], p[5], p[6], p[7], p[8], p[9], p[10], p[11],
-    ];
-    give(r.code, &bytes, out)
+    match pin::read_pin(block) {
+        Ok(pin) => give(Ok(pin_bytes(pin)), out),
+        Err(why) => give::<13>(Err(why), out),
+    }
 }
 
 // The cryptogram of 65 data bytes, its kind by number (80 ARQC, 40 TC, 00 AAC). 1: a length or the kind.
 #[unsafe(no_mangle)]
 pub extern "C" fn box_cryptogram(key: &[u8], kind: u8, counter: u16, d: &[u8], out: &mut [u8]) -> u8
-    ensures { GivenBlock (by_number key.now (kind_of kind) counter d.now) out.old result out.new }
+    ensures { Given 8 (by_number key.now (kind_of kind) counter d.now) out.old result out.new }
 {
-    let read = cryptogram::kind_of(kind);
-    let KindRead::Known(k) = read else {
-        return Refusal::INPUT;
+    let Some(k) = cryptogram::kind_of(kind) else {
+        return Refusal::Input.number();
     };
-    let r = cryptogram::cryptogram(key, k, counter, d);
-    let bytes = r.bytes;
-    give(r.code, &bytes, out)
+    give(cryptogram::cryptogram(key, k, counter, d), out)
 }
 
 // The issuer's answer to a cryptogram of 8 bytes with a CSU of 4. 1: a length.
 #[unsafe(no_mangle)]
 pub extern "C" fn box_arpc(key: &[u8], cryptogram: &[u8], csu: &[u8], out: &mut [u8]) -> u8
-    ensures { GivenBlock (arpc_answer key.now cryptogram.now csu.now) out.old result out.new }
+    ensures { Given 8 (arpc_answer key.now cryptogram.now csu.now) out.old result out.new }
 {
-    let r = cryptogram::arpc(key, cryptogram, csu);
-    let bytes = r.bytes;
-    give(r.code, &bytes, out)
+    give(cryptogram::arpc(key, cryptogram, csu), out)
 }
 
 // A script message written into the buffer from a place on. 1: a length or the tag; 3: it does not fit there.
@@ -214,7 +198,7 @@ pub extern "C" fn box_wrap(
 ) -> u8
     ensures { Wrote (wrapped key.now header.now tag d.now buffer.old place) result buffer.new }
 {
-    message::wrap(key, header, tag, d, buffer, place)
+    number_told(&message::wrap(key, header, tag, d, buffer, place))
 }
 
 // A script message opened: its tag, and the place and length of its data. 1: a length; 4: the shape; 8: the code.
@@ -222,14 +206,9 @@ pub extern "C" fn box_wrap(
 pub extern "C" fn box_open(key: &[u8], header: &[u8], message: &[u8], found: &mut [u8]) -> u8
     ensures { GivenOpened (opened key.now header.now message.now) found.old result found.new }
 {
-    let o = message::open_message(key, header, message);
-    match o {
-        Opened::Data { tag, place, length } => {
-            let at = (place % 256) as u8;
-            let n = (length % 256) as u8;
-            give(0, &[tag, at, n], found)
-        }
-        Opened::Refused(n) => give(n, &[0, 0, 0], found),
+    match message::open_message(key, header, message) {
+        Ok(f) => give(Ok([f.tag, f.place as u8, f.length as u8]), found),
+        Err(why) => give::<3>(Err(why), found),
     }
 }
 
@@ -239,9 +218,10 @@ pub extern "C" fn box_read_templates(input: &[u8], objects: &mut [u8]) -> u8
     ensures { GivenObjects (reading input.now) objects.old result objects.new }
 {
     let r = templates::read_templates(input);
-    let all = r.objects;
-    let bytes = templates::lay_objects(all);
-    give(r.code, &bytes, objects)
+    match r.fault {
+        None => give(Ok(templates::lay_objects(r.objects)), objects),
+        Some(fault) => give::<320>(Err(fault.why), objects),
+    }
 }
 
 // Where the first object at fault begins. 1: a length, or nothing is at fault.
@@ -249,12 +229,10 @@ pub extern "C" fn box_read_templates(input: &[u8], objects: &mut [u8]) -> u8
 pub extern "C" fn box_templates_fault(input: &[u8], place: &mut [u8]) -> u8
     ensures { GivenFault (reading input.now) place.old result place.new }
 {
-    let r = templates::read_templates(input);
-    let bytes = templates::lay_place(r.at);
-    if r.code == 0 {
-        return give(Refusal::INPUT, &bytes, place);
+    match templates::read_templates(input).fault {
+        Some(fault) => give(Ok(templates::lay_place(fault.at)), place),
+        None => give::<4>(Err(Refusal::Input), place),
     }
-    give(0, &bytes, place)
 }
 
 // Script templates written into the buffer from a place on, of objects of ten bytes each whose data lie in a source, and the number of bytes written.
@@ -270,19 +248,20 @@ pub extern "C" fn box_write_templates(
     ensures { GivenTemplates objects.now source.now buffer.old place size.old result buffer.new size.new }
 {
     if size.len() != 4 {
-        return Refusal::INPUT;
+        return Refusal::Input.number();
     }
-    let w = scripts::write_templates(objects, source, buffer, place);
-    let bytes = templates::lay_place(w.size);
-    give(w.code, &bytes, size)
+    match scripts::write_templates(objects, source, buffer, place) {
+        Ok(n) => give(Ok(templates::lay_place(n)), size),
+        Err(why) => why.number(),
+    }
 }
 
 // A hash of no bytes so far, in a lent state of 261 bytes. 1: its length.
 #[unsafe(no_mangle)]
 pub extern "C" fn box_hash_begin(state: &mut [u8]) -> u8
-    ensures { (result ≡ begun_number hash_form 0 state.old) × (state.new ≡ begun_after hash_form 0 begun state.old) }
+    ensures { (result ≡ begun_number hash_form (Ok begun) state.old) × (state.new ≡ begun_after hash_form (Ok begun) state.old) }
 {
-    parts::hash_begin(state)
+    number_told(&parts::hash_begin(state))
 }
 
 // One part more. 1: the length of the state, or the total.
@@ -291,25 +270,25 @@ pub extern "C" fn box_hash_feed(state: &mut [u8], part: &[u8]) -> u8
     ensures { (result ≡ fed_number hash_form hash_way state.old part.now)
         × (state.new ≡ fed_after hash_form hash_way state.old part.now) }
 {
-    parts::hash_feed(state, part)
+    number_told(&parts::hash_feed(state, part))
 }
 
 // The hash of all the bytes fed. 1: a length.
 #[unsafe(no_mangle)]
 pub extern "C" fn box_hash_end(state: &[u8], out: &mut [u8]) -> u8
-    ensures { (result ≡ ended_number hash_form 32 state.now out.old 0)
-        × (out.new ≡ ended_after hash_form 32 state.now out.old 0 (ended (hash_in state.now))) }
+    ensures { (result ≡ ended_number hash_form 32 state.now out.old (Ok (ended (hash_in state.now))))
+        × (out.new ≡ ended_after hash_form 32 state.now out.old (Ok (ended (hash_in state.now)))) }
 {
-    parts::hash_end(state, out)
+    number_told(&parts::hash_end(state, out))
 }
 
 // HMAC of no bytes so far under a key of 32, in a lent state of 522 bytes. 1: a length.
 #[unsafe(no_mangle)]
 pub extern "C" fn box_hmac_begin(key: &[u8], state: &mut [u8]) -> u8
-    ensures { (result ≡ begun_number mac_form (mac_begun key.now).code state.old)
-        × (state.new ≡ begun_after mac_form (mac_begun key.now).code (mac_begun key.now).state state.old) }
+    ensures { (result ≡ begun_number mac_form (mac_begun key.now) state.old)
+        × (state.new ≡ begun_after mac_form (mac_begun key.now) state.old) }
 {
-    parts::hmac_begin(key, state)
+    number_told(&parts::hmac_begin(key, state))
 }
 
 // One part more. 1: the length of the state, or the total.
@@ -318,25 +297,25 @@ pub extern "C" fn box_hmac_feed(state: &mut [u8], part: &[u8]) -> u8
     ensures { (result ≡ fed_number mac_form mac_way state.old part.now)
         × (state.new ≡ fed_after mac_form mac_way state.old part.now) }
 {
-    parts::hmac_feed(state, part)
+    number_told(&parts::hmac_feed(state, part))
 }
 
 // HMAC of all the bytes fed. 1: a length.
 #[unsafe(no_mangle)]
 pub extern "C" fn box_hmac_end(state: &[u8], out: &mut [u8]) -> u8
-    ensures { (result ≡ ended_number mac_form 32 state.now out.old 0)
-        × (out.new ≡ ended_after mac_form 32 state.now out.old 0 (mac_ended (mac_in state.now))) }
+    ensures { (result ≡ ended_number mac_form 32 state.now out.old (Ok (mac_ended (mac_in state.now))))
+        × (out.new ≡ ended_after mac_form 32 state.now out.old (Ok (mac_ended (mac_in state.now)))) }
 {
-    parts::hmac_end(state, out)
+    number_told(&parts::hmac_end(state, out))
 }
 
 // The code of no bytes so far under a key of 32, in a lent state of 53 bytes. 1: a length.
 #[unsafe(no_mangle)]
 pub extern "C" fn box_code_begin(key: &[u8], state: &mut [u8]) -> u8
-    ensures { (result ≡ begun_number code_form (code_begun key.now).code state.old)
-        × (state.new ≡ begun_after code_form (code_begun key.now).code (code_begun key.now).state state.old) }
+    ensures { (result ≡ begun_number code_form (code_begun key.now) state.old)
+        × (state.new ≡ begun_after code_form (code_begun key.now) state.old) }
 {
-    parts::code_begin(key, state)
+    number_told(&parts::code_begin(key, state))
 }
 
 // One part more. 1: the length of the state, or the total.
@@ -345,17 +324,17 @@ pub extern "C" fn box_code_feed(state: &mut [u8], part: &[u8]) -> u8
     ensures { (result ≡ fed_number code_form code_way state.old part.now)
         × (state.new ≡ fed_after code_form code_way state.old part.now) }
 {
-    parts::code_feed(state, part)
+    number_told(&parts::code_feed(state, part))
 }
 
 // The code of all the bytes fed. 1: a length, no whole block, or bytes after the last one.
 #[unsafe(no_mangle)]
 pub extern "C" fn box_code_end(state: &[u8], out: &mut [u8]) -> u8
-    ensures { (result ≡ ended_number code_form 4 state.now out.old (code_ended (code_in state.now)).code)
+    ensures { (result ≡ ended_number code_form 4 state.now out.old (code_ended (code_in state.now)))
         × (out.new
-        ≡ ended_after code_form 4 state.now out.old (code_ended (code_in state.now)).code (code_ended (code_in state.now)).bytes) }
+        ≡ ended_after code_form 4 state.now out.old (code_ended (code_in state.now))) }
 {
-    parts::code_end(state, out)
+    number_told(&parts::code_end(state, out))
 }
 
 // Holds a card from now on, in a lent table of 1600 bytes. 1: the table's length; 2: the card; 20: it is held; 21: 64 cards are.
@@ -363,7 +342,7 @@ pub extern "C" fn box_code_end(state: &[u8], out: &mut [u8]) -> u8
 pub extern "C" fn box_desk_add(table: &mut [u8], pan: &[u8], sequence: u8) -> u8
     ensures { AddedIn table.old pan.now sequence result table.new }
 {
-    stored::add(table, pan, sequence)
+    number_told(&stored::add(table, pan, sequence))
 }
 
 // Holds a card no longer. 1: the table's length; 2: the card; 19: it is not held.
@@ -371,7 +350,7 @@ pub extern "C" fn box_desk_add(table: &mut [u8], pan: &[u8], sequence: u8) -> u8
 pub extern "C" fn box_desk_forget(table: &mut [u8], pan: &[u8], sequence: u8) -> u8
     ensures { ForgottenIn table.old pan.now sequence result table.new }
 {
-    stored::forget(table, pan, sequence)
+    number_told(&stored::forget(table, pan, sequence))
 }
 
 // Checks an ARQC, keeps the counter in its data, and gives the ARPC for a CSU. 1: a length, or digits above 1; 2: the card; 19: it is not held; 22: the ARQC
@@ -391,7 +370,7 @@ pub extern "C" fn box_desk_check(
     ensures { CheckedIn table.old issuer.now digits pan.now sequence «data».now arqc.now csu.now arpc.old
         result table.new arpc.new }
 {
-    stored::check(table, issuer, digits, pan, sequence, data, arqc, csu, arpc)
+    number_told(&stored::check(table, issuer, digits, pan, sequence, data, arqc, csu, arpc))
 }
 
 // Header and message of a command for a held card, at a place of the buffer. 1: a length, the instruction, or digits above 1; 2: the card; 19: it is not
@@ -415,7 +394,7 @@ pub extern "C" fn box_desk_wrap(
         buffer.old place)
         result buffer.new }
 {
-    stored::wrap(
+    number_told(&stored::wrap(
         table,
         smi,
         smc,
@@ -427,5 +406,5 @@ pub extern "C" fn box_desk_wrap(
         pin,
         buffer,
         place,
-    )
+    ))
 }

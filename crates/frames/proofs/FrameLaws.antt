@@ -49,13 +49,9 @@ fresh_made s ac smi smc cs b atc n p l e1 e2 e3 e4 e5 e6 e7 e =
     e ∙ rw (e1, e2, e3, c, e5, e6, e7, loads (length s) x y)
 
 module _ (h : Held) (s : List ℕ) (x : Said) where
-  pub starts_short : length s < 115 → x ≡ said (numbered h 1) → x ≡ said (starts h (personalised_by s))
+  pub starts_unfit : (length s ≡ 115 → ⊥) → (length s ≡ 116 → ⊥) → x ≡ said (numbered h 1) → x ≡ said (starts h (personalised_by s))
   unfolding personalised_by_under starts
-  starts_short n e = e ∙ rw (ne_eqb (length s) 115 (λ z. omega arith), ne_eqb (length s) 116 (λ z. omega arith))
-
-  pub starts_long : 116 < length s → x ≡ said (numbered h 1) → x ≡ said (starts h (personalised_by s))
-  unfolding personalised_by_under starts
-  starts_long n e = e ∙ rw (ne_eqb (length s) 115 (λ z. omega arith), ne_eqb (length s) 116 (λ z. omega arith))
+  starts_unfit n m e = e ∙ rw (ne_eqb (length s) 115 n, ne_eqb (length s) 116 m)
 
   pub starts_refused : (p : Reply) → p ≡ personalised_by s → (p.code ≡ 0 → ⊥) → x ≡ said (numbered h p.code) → x ≡ said (starts h (personalised_by s))
   unfolding starts
@@ -108,11 +104,11 @@ pub script_parts : (r : Card) (s : List ℕ) (x : Reply) → x ≡ step r (Scrip
 script_parts r s x e = e ∙ ap (λ (b : List ℕ). step r (Script (take 4 s) b)) (rest_all 4 s)
 
 -- with and without bytes after
-pub bare_not : (s : List ℕ) (a b x : Reply) → (length s ≡ 0 → ⊥) → x ≡ b → x ≡ bare s a b
-bare_not s a b x h e = e ∙ rw (ne_eqb _ _ h)
+pub bare_not : (s : List ℕ) (a b x : Reply) (t : Bool) → t ≡ eqb (length s) 0 → t ≡ false → x ≡ b → x ≡ bare s a b
+bare_not s a b x t q h e = e ∙ rw (← q, h)
 
-pub bare_so : (s : List ℕ) (a b x : Reply) → length s ≡ 0 → x ≡ a → x ≡ bare s a b
-bare_so s a b x h e = e ∙ rw (eq-eqb _ _ h)
+pub bare_so : (s : List ℕ) (a b x : Reply) (t : Bool) → t ≡ eqb (length s) 0 → t ≡ true → x ≡ a → x ≡ bare s a b
+bare_so s a b x t q h e = e ∙ rw (← q, h)
 
 -- 01 to 07
 module _ (r : Card) (f : ℕ) (s : List ℕ) (x : Reply) where

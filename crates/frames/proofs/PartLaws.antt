@@ -4,11 +4,9 @@ use native.Mathlib.Omega.{arith}
 use native.Mathlib.Numerals.{add-one}
 use mathlib.Core.Path.{◌≡◌, refl, sym, ap, ◌∙◌}
 use mathlib.Core.List.{List, [], ◌∷◌, ◌++◌, append_assoc, append-nil}
-use lib.ListN.{length, get_or, take, drop, set, replicate, length-drop, length-replicate}
-use lib.Seq.{drop-cons, take-suc-set, get_or-take, get_or-drop, length-take-le, paste}
-use Rattle.octets.proofs.Parts.{made_turn, made_end}
+use lib.ListN.{length, get_or, take, drop, set, length-drop}
+use lib.Seq.{drop-cons, take-suc-set}
 use Rattle.lines.specs.Lines.{octet_of, octets_of}
-use Rattle.frames.specs.Frames.{part}
 
 -- two digits are an octet
 octets_pair : (s : List ℕ) (j : ℕ) → j + 1 < length s
@@ -40,33 +38,11 @@ octets_turn s b i v hb hs e w =
     ∙ ap (λ (t : List ℕ). take i b ++ t) (sym (octets_pair s (2 * i) hs))
     ∙ w)
 
-pub octets_end : (s b : List ℕ) (n i : ℕ) → i ≤ n → n ≤ i → n ≡ length s / 2 → take i b ++ octets_of (drop (2 * i) s) ≡ octets_of s
+pub octets_end : (s b : List ℕ) (i : ℕ) → i ≡ length s / 2 → take i b ++ octets_of (drop (2 * i) s) ≡ octets_of s
     → take (length s / 2) b ≡ octets_of s
-octets_end s b n i p q e w =
-    let d : i ≡ length s / 2 = omega arith in
+octets_end s b i d w =
     let h : length (drop (2 * i) s) ≤ 1 = simp length-drop (omega arith) in
     ap (λ (k : ℕ). take k b) (sym d)
     ∙ sym (append-nil (take i b))
     ∙ ap (λ (t : List ℕ). take i b ++ t) (sym (octets-short (drop (2 * i) s) h))
     ∙ w
-
--- a part of a frame, copied byte by byte
-module _ (f : List ℕ) (at n : ℕ) (h : at + n ≤ length f) where
-  part_length : length (part at n f) ≡ n
-  unfolding part
-  part_length = length-take-le n (drop at f) (simp length-drop (omega arith))
-
-  part_at : (i : ℕ) → i < n → get_or f (at + i) 0 ≡ get_or (part at n f) i 0
-  unfolding part
-  part_at i l = rw (get_or-take, get_or-drop)
-
-  pub copy_turn : (k : List ℕ) (i : ℕ) → i < n → k ≡ paste (replicate n 0) 0 (part at n f) i
-      → set k i (get_or f (at + i) 0) ≡ paste (replicate n 0) 0 (part at n f) (i + 1)
-  copy_turn k i l e =
-      ap (λ (x : List ℕ). set x i (get_or f (at + i) 0)) e
-      ∙ made_turn (replicate n 0) (part at n f) i (get_or f (at + i) 0) (rw (length-replicate {A = ℕ} n 0) l) (rw part_length l) (part_at i l)
-
-  pub copy_end : (k : List ℕ) (i : ℕ) → i ≤ n → n ≤ i → k ≡ paste (replicate n 0) 0 (part at n f) i → k ≡ part at n f
-  copy_end k i l m e =
-      let q : i ≡ n = omega arith in
-      e ∙ ap (paste (replicate n 0) 0 (part at n f)) q ∙ made_end (replicate n 0) (part at n f) n (length-replicate {A = ℕ} n 0) part_length

@@ -9,7 +9,7 @@ ghost use Rattle.card.specs.Record.{masters};
 ghost use Rattle.card.specs.Words.{Fits, FitAll};
 ghost use Rattle.lines.specs.Lines.{longest, hexadecimal, octets_of};
 ghost use Rattle.lines.specs.Said.{said};
-ghost use Rattle.frames.specs.Frames.{part, tries_in, personalised_by, starts, overlong, bare, called, framed, answer_to};
+ghost use Rattle.frames.specs.Frames.{part as bytesAt, tries_in, personalised_by, starts, overlong, bare, called, framed, answer_to};
 
 use answers::Refusal;
 use card::{Card, FULL_TRIES, Reply};
@@ -30,41 +30,20 @@ fn octets_of(text: &[u8]) -> [u8; OCTETS]
     ensures { take (length text.now / 2) result ≡ octets_of text.now }
 {
     let mut bytes = [0u8; OCTETS];
-    let n = text.len() / 2;
-    let mut i = 0;
-    while i < n {
+    for i in 0..text.len() / 2 {
         bytes[i] = lines::octet_of(text[2 * i], text[2 * i + 1]);
-        i += 1;
     }
     bytes
 }
 
-// The 32 bytes of a frame from a place on.
-fn key_at(frame: &[u8], at: usize) -> [u8; 32]
-    requires { at + 32 ≤ length frame.now }
-    ensures { result ≡ part at 32 frame.now }
+// The N bytes of a frame from a place on.
+fn part<const N: usize>(frame: &[u8], at: usize) -> [u8; N]
+    requires { at + N ≤ length frame.now }
+    ensures { result ≡ bytesAt at N frame.now }
 {
-    let mut key = [0u8; 32];
-    let mut i = 0;
-    while i < 32 {
-        key[i] = frame[at + i];
-        i += 1;
-    }
-    key
-}
-
-// The 8 bytes of a frame from a place on.
-fn block_at(frame: &[u8], at: usize) -> [u8; 8]
-    requires { at + 8 ≤ length frame.now }
-    ensures { result ≡ part at 8 frame.now }
-{
-    let mut block = [0u8; 8];
-    let mut i = 0;
-    while i < 8 {
-        block[i] = frame[at + i];
-        i += 1;
-    }
-    block
+    let mut bytes = [0; N];
+    bytes.copy_from_slice(&frame[at..at + N]);
+    bytes
 }
 
 // The tries that frame 00 ends in, or all.
@@ -72,9 +51,10 @@ fn tries_in(rest: &[u8]) -> u8
     ensures { result ≡ tries_in rest.now }
 {
     if rest.len() == 116 {
-        return rest[115];
+        rest[115]
+    } else {
+        FULL_TRIES
     }
-    FULL_TRIES
 }
 
 // The record that frame 00 makes of the 115 or 116 bytes after its first.
@@ -82,12 +62,12 @@ fn fresh(rest: &[u8]) -> Reply
     requires { (115 ≤ length rest.now) × (length rest.now ≤ 116) }
     ensures { result ≡ personalised_by rest.now }
 {
-    let ac = key_at(rest, 0);
-    let smi = key_at(rest, 32);
-    let smc = key_at(rest, 64);
+    let ac = part(rest, 0);
+    let smi = part(rest, 32);
+    let smc = part(rest, 64);
     let atc = octets::high_low(rest[96], rest[97]);
-    let counters = block_at(rest, 98);
-    let block = block_at(rest, 107);
+    let counters = part(rest, 98);
+    let block = part(rest, 107);
     let tries = tries_in(rest);
     Card::personalise(ac, smi, smc, atc, counters, rest[106], block, tries)
 }
@@ -96,27 +76,23 @@ fn fresh(rest: &[u8]) -> Reply
 fn personalise(held: Held, rest: &[u8]) -> Said
     ensures { result ≡ said (starts held (personalised_by rest.now)) }
 {
-    if rest.len() < 115 {
-        return lines::short(held, Refusal::INPUT);
+    if rest.len() < 115 || rest.len() > 116 {
+        return lines::refused(held, Refusal::Input);
     }
-    if rest.len() > 116 {
-        return lines::short(held, Refusal::INPUT);
+    let made = fresh(rest);
+    if made.code != 0 {
+        return lines::short(held, made.code);
     }
-    let p = fresh(rest);
-    if p.code != 0 {
-        return lines::short(held, p.code);
-    }
-    let card = p.card;
-    lines::short(lines::one(card), 0)
+    lines::short(lines::one(made.card), 0)
 }
 
 // A refusal without bytes.
-fn refused(card: Card, code: u8) -> Reply
-    ensures { result ≡ plain card code }
+fn refused(card: Card, why: Refusal) -> Reply
+    ensures { result ≡ plain card (number why) }
 {
     Reply {
         card,
-        code,
+        code: why.number(),
         kind: 0,
         bytes: [0; 8],
     }
@@ -126,11 +102,10 @@ fn refused(card: Card, code: u8) -> Reply
 fn too_long(card: Card) -> Reply
     ensures { result ≡ overlong card }
 {
-    let closed = card.close();
-    if closed.code == Refusal::PHASE_WRONG {
-        return refused(card, Refusal::PHASE_WRONG);
+    if card.close().code == Refusal::PhaseWrong.number() {
+        return refused(card, Refusal::PhaseWrong);
     }
-    refused(card, Refusal::INPUT)
+    refused(card, Refusal::Input)
 }
 
 // Frame 02 after its first byte: ARPC and CSU.
@@ -157,7 +132,7 @@ fn script(card: Card, smi: &[u64], smc: &[u64], rest: &[u8]) -> Reply
 fn close(card: Card, rest: &[u8]) -> Reply
     ensures { result ≡ bare rest.now (step card Close) (overlong card) }
 {
-    if rest.len() != 0 {
+    if !rest.is_empty() {
         return too_long(card);
     }
     card.close()
@@ -166,8 +141,8 @@ fn close(card: Card, rest: &[u8]) -> Reply
 fn withdraw(card: Card, rest: &[u8]) -> Reply
     ensures { result ≡ bare rest.now (step card Withdraw) (plain card (number Input)) }
 {
-    if rest.len() != 0 {
-        return refused(card, Refusal::INPUT);
+    if !rest.is_empty() {
+        return refused(card, Refusal::Input);
     }
     card.withdraw()
 }
@@ -175,7 +150,7 @@ fn withdraw(card: Card, rest: &[u8]) -> Reply
 fn counter_block(card: Card, ac: &[u64], rest: &[u8]) -> Reply
     ensures { Fits ac.now card.ac → result ≡ bare rest.now (step card Counters) (overlong card) }
 {
-    if rest.len() != 0 {
+    if !rest.is_empty() {
         return too_long(card);
     }
     card.counter_block_kept(ac)
@@ -204,10 +179,9 @@ fn frame(held: Held, ac: &[u64], smi: &[u64], smc: &[u64], tag: u8, rest: &[u8])
         return personalise(held, rest);
     }
     if !held.exists {
-        return lines::short(held, Refusal::PHASE_WRONG);
+        return lines::refused(held, Refusal::PhaseWrong);
     }
-    let card = held.card;
-    lines::replied(tag, call(card, ac, smi, smc, tag, rest))
+    lines::replied(tag, call(held.card, ac, smi, smc, tag, rest))
 }
 
 // The answer to a line of digits.
@@ -218,10 +192,9 @@ fn read(held: Held, ac: &[u64], smi: &[u64], smc: &[u64], text: &[u8]) -> Said
     let bytes = octets_of(text);
     let tag = bytes[0];
     if tag > LAST_FRAME {
-        return lines::short(held, Refusal::UNREADABLE);
+        return lines::refused(held, Refusal::Unreadable);
     }
-    let m = text.len() / 2;
-    frame(held, ac, smi, smc, tag, &bytes[1..m])
+    frame(held, ac, smi, smc, tag, &bytes[1..text.len() / 2])
 }
 
 // The answer to a line of n signs.
@@ -243,11 +216,11 @@ pub fn answer_kept(
     ensures { FitAll ac.now smi.now smc.now (masters held.card) → result ≡ said (answer_to held (take n line)) }
 {
     if n > LONGEST {
-        return lines::short(held, Refusal::UNREADABLE);
+        return lines::refused(held, Refusal::Unreadable);
     }
     let text = &line[..n];
     if !lines::is_hexadecimal(text) {
-        return lines::short(held, Refusal::UNREADABLE);
+        return lines::refused(held, Refusal::Unreadable);
     }
     read(held, ac, smi, smc, text)
 }

@@ -1,45 +1,30 @@
 -- Blocks as octets and as halves. Assumes nothing.
-use Rattle.std.proofs.Common.{◌≡◌, ℕ, suc, ◌+◌, ◌^◌, ◌<◌, ◌≤◌, List, [], ◌∷◌, ◌++◌, length, take, drop, refl, ap, ◌∙◌, subst, ap₂, arith, lit≤, length-drop, take-append-drop, length-take-le, take_all, take-take, drop-drop}
+use Rattle.std.proofs.Common.{◌≡◌, ℕ, suc, zero, ◌+◌, ◌*◌, ◌^◌, ◌<◌, List, ◌++◌, length, take, drop, get_or, refl, ap, ◌∙◌, subst, ap₂, arith, length-drop, take-append-drop, length-take-le, take_all, drop-drop}
+use native.Mathlib.Nat.{add_comm}
 use Rattle.octets.specs.Numbers.{Octets, le, le_octets}
-use Rattle.octets.proofs.Parts.{part_part, octets-take, octets-drop}
+use Rattle.octets.proofs.Parts.{octets-take, octets-drop}
 use Rattle.octets.proofs.NumberLaws.{le-le_octets, le_octets-le, le_lt}
 use Rattle.gost.specs.declared.Halves.{Halves}
 use Rattle.gost.specs.Gost.{halves, block, subkeys}
 use Rattle.gost.proofs.Rounds.{Words}
 
--- a subkey more
-subkeys_at : (n i : ℕ) (s : List ℕ) → subkeys (suc n) (drop i s) ≡ le (take 4 (drop i s)) ∷ subkeys n (drop (i + 4) s)
+-- the subkeys, one by one
+pub get_or-subkeys : (n i : ℕ) (key : List ℕ) → i < n → get_or (subkeys n key) i 0 ≡ le (take 4 (drop (i * 4) key))
 unfolding subkeys
-subkeys_at n i s = ap (λ (l : List ℕ). le (take 4 (drop i s)) ∷ subkeys n l) (drop-drop 4 i s)
+get_or-subkeys zero i key h = absurd (omega arith)
+get_or-subkeys (suc n) zero key h = refl
+get_or-subkeys (suc n) (suc i) key h =
+    let e : i * 4 + 4 ≡ suc i * 4 = omega arith in
+    get_or-subkeys n i (drop 4 key) (omega arith) ∙ ap (λ (s : List ℕ). le (take 4 s)) (drop-drop (i * 4) 4 key) ∙ ap (λ (k : ℕ). le (take 4 (drop k key))) (add_comm 4 (i * 4) ∙ e)
 
-subkeys_none : (s : List ℕ) → subkeys 0 s ≡ []
+pub length-subkeys : (n : ℕ) (key : List ℕ) → length (subkeys n key) ≡ n
 unfolding subkeys
-subkeys_none s = refl
-
--- the eight subkeys of a key
-pub subkeys_eight : {w0 w1 w2 w3 w4 w5 w6 w7 : ℕ} (s : List ℕ)
-    → w0 ≡ le (take 4 s)
-    → w1 ≡ le (take 4 (drop 4 s))
-    → w2 ≡ le (take 4 (drop 8 s))
-    → w3 ≡ le (take 4 (drop 12 s))
-    → w4 ≡ le (take 4 (drop 16 s))
-    → w5 ≡ le (take 4 (drop 20 s))
-    → w6 ≡ le (take 4 (drop 24 s))
-    → w7 ≡ le (take 4 (drop 28 s))
-    → w0 ∷ w1 ∷ w2 ∷ w3 ∷ w4 ∷ w5 ∷ w6 ∷ w7 ∷ [] ≡ subkeys 8 s
-subkeys_eight s h0 h1 h2 h3 h4 h5 h6 h7 =
-    cc (subkeys_at 7 0 s, subkeys_at 6 4 s, subkeys_at 5 8 s, subkeys_at 4 12 s, subkeys_at 3 16 s, subkeys_at 2 20 s, subkeys_at 1 24 s, subkeys_at 0 28 s, subkeys_none (drop 32 s))
+length-subkeys zero key = refl
+length-subkeys (suc n) key = ap suc (length-subkeys n (drop 4 key))
 
 pub length-block : (s : Halves) → length (block s) ≡ 8
 unfolding block le_octets
 length-block s = refl
-
--- the halves of the eight octets from i on
-pub halves_at_lem : (s : List ℕ) (i : ℕ) → i + 8 ≤ length s → halves (take 8 (drop i s)) ≡ record { n1 = le (take 4 (drop i s)); n2 = le (take 4 (drop (i + 4) s)) }
-unfolding halves
-halves_at_lem s i h =
-    ap₂ (λ (x y : List ℕ). record { n1 = le x; n2 = le y }) (take-take 4 8 (drop i s) (lit≤ tt))
-    (part_part s i 8 4 4 h (lit≤ tt))
 
 -- words are written and read back
 pub halves_block : (s : Halves) → Words s → halves (block s) ≡ s

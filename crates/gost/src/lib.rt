@@ -55,8 +55,7 @@ fn substitute(x: u32) -> u32
 fn mix(x: u32, k: u32) -> u32
     ensures { result ≡ mixed x k }
 {
-    let y = substitute(std::num::wrapping_add_u32(x, k));
-    (y << 11) + (y >> 21)
+    substitute(x.wrapping_add(k)).rotate_left(11)
 }
 
 // Eight rounds with the subkeys in turn.
@@ -65,19 +64,18 @@ pub fn eight(k: [u32; 8], s: Halves) -> Halves
 {
     let mut n1 = s.n1;
     let mut n2 = s.n2;
-    let mut i = 0;
-    while i < 8 {
-        let n = n2 ^ mix(n1, k[i]);
+    for x in &k {
+        let n = n2 ^ mix(n1, *x);
         n2 = n1;
         n1 = n;
-        i += 1;
     }
     Halves { n1, n2 }
 }
 
 // The subkeys from the last to the first.
-pub fn reversed(k: [u32; 8]) -> [u32; 8]
+pub fn reversed(mut k: [u32; 8]) -> [u32; 8]
     ensures { result ≡ reverse k }
 {
-    [k[7], k[6], k[5], k[4], k[3], k[2], k[1], k[0]]
+    k.reverse();
+    k
 }

@@ -1,16 +1,16 @@
 -- Blocks of a message in the code: read as words, put into a buffer, padded. Assumes nothing.
 use mathlib.Core.Path.{◌≡◌, refl, sym, ap, ap₂, ◌∙◌}
-use mathlib.Core.List.{List, [], ◌∷◌, ◌++◌, append-nil}
-use Prim.Native.Nat.{ℕ, suc, ◌+◌, ◌-◌, ◌*◌, ◌/◌, ◌%◌, ◌<◌, ◌≤◌}
+use mathlib.Core.List.{List, [], ◌∷◌, ◌++◌, append-nil, append_assoc}
+use Prim.Native.Nat.{ℕ, suc, ◌+◌, ◌-◌, ◌*◌, ◌<◌, ◌≤◌}
 use native.Mathlib.Numerals.{add-one}
 use native.Mathlib.Omega.{arith}
 use lib.Dec.{lit≤}
-use lib.ListN.{length, take, drop, set, get_or, replicate, length-append, length-drop}
-use lib.Seq.{paste, paste-suc, length-take-le, set_at, drop-append-add, take-append_seam, get_or-drop}
+use lib.ListN.{length, take, drop, set, get_or, replicate, length-append}
+use lib.Seq.{paste, length-take-le, set_at, drop-append-add, take-append_seam, take-suc, take_all}
+use Rattle.std.specs.Int.{w64, from_le_bytes}
 use Rattle.octets.specs.Numbers.{le, le_octets}
 use Rattle.octets.proofs.Parts.{zeros, drop-zeros, part_part, elements, elements_all}
 use Rattle.lps.specs.Vectors.{each, words, bytes}
-use Rattle.lps.proofs.Bytes.{bytes_at}
 use Rattle.hash.specs.Hash.{padded}
 use Rattle.blocks.specs.Parts.{filled}
 
@@ -33,11 +33,29 @@ module _ (m : List ℕ) (p : ℕ) (h : p + 64 ≤ length m) where
       ∷ word_of 7 (lit≤ tt) k
       ∷ []
 
--- byte k of a vector
-pub byte_at : (v : List ℕ) (k : ℕ) → k < length v * 8 → get_or (le_octets 8 (get_or v (k / 8) 0)) (k % 8) 0 ≡ get_or (bytes v) k 0
-byte_at v k h =
-    let e : k / 8 * 8 + k % 8 ≡ k = omega arith in
-    sym (ap (λ (j : ℕ). get_or (bytes v) j 0) (sym e) ∙ bytes_at v (k / 8) (k % 8) (omega arith) (omega arith))
+-- the word that std reads of eight bytes
+eight : (a b c d e f g h : ℕ) → from_le_bytes w64 (a ∷ b ∷ c ∷ d ∷ e ∷ f ∷ g ∷ h ∷ []) ≡ le (a ∷ b ∷ c ∷ d ∷ e ∷ f ∷ g ∷ h ∷ [])
+unfolding le
+eight a b c d e f g h = omega arith
+
+pub word_read : (s : List ℕ) → length s ≡ 8 → from_le_bytes w64 s ≡ le s
+word_read s n =
+    let e : s ≡ elements s 0 0 8 = elements_all s 8 n in
+    ap (from_le_bytes w64) e
+    ∙ eight (get_or s 0 0) (get_or s 1 0) (get_or s 2 0) (get_or s 3 0) (get_or s 4 0) (get_or s 5 0) (get_or s 6 0) (get_or s 7 0)
+    ∙ ap le (sym e)
+
+bytes-append : (v w : List ℕ) → bytes (v ++ w) ≡ bytes v ++ bytes w
+unfolding bytes
+bytes-append [] w = refl
+bytes-append (x ∷ v) w = ap (λ (s : List ℕ). le_octets 8 x ++ s) (bytes-append v w) ∙ sym (append_assoc (le_octets 8 x) (bytes v) (bytes w))
+
+-- a turn of the loop that writes words
+pub bytes_turn : (v : List ℕ) (i : ℕ) → i < length v → bytes (take i v) ++ le_octets 8 (get_or v i 0) ≡ bytes (take (i + 1) v)
+unfolding bytes
+bytes_turn v i h =
+    ap (λ (s : List ℕ). bytes (take i v) ++ s) (sym (append-nil (le_octets 8 (get_or v i 0))))
+    ∙ sym (ap (λ (j : ℕ). bytes (take j v)) (add-one i) ∙ ap bytes (take-suc v i 0 h) ∙ bytes-append (take i v) (get_or v i 0 ∷ []))
 
 -- the bytes of the upper half of a vector
 pub bytes_upper : (v : List ℕ) → length v ≡ 8 → bytes (drop 4 v) ≡ drop 32 (bytes v)
@@ -46,13 +64,10 @@ bytes_upper v n =
     let e : v ≡ elements v 0 0 8 = elements_all v 8 n in
     ap (λ (x : List ℕ). bytes (drop 4 x)) e ∙ ap (λ (x : List ℕ). drop 32 (bytes x)) (sym e)
 
--- a turn of the loop that copies
-pub put_turn : (b m : List ℕ) (at from i : ℕ) → at + i < length b → from + i < length m
-    → set (paste b at (drop from m) i) (at + i) (get_or m (from + i) 0) ≡ paste b at (drop from m) (i + 1)
-put_turn b m at from i hb hm =
-    ap (set (paste b at (drop from m) i) (at + i)) (sym (get_or-drop from m i 0))
-    ∙ paste-suc b at (drop from m) i 0 hb (simp length-drop (omega arith))
-    ∙ ap (paste b at (drop from m)) (sym (add-one i))
+-- a part of a string is put in
+pub put_part : (b s : List ℕ) (at n : ℕ) → n ≤ length s → paste b at (take n s) n ≡ paste b at s n
+put_part b s at n h =
+    ap (λ (x : List ℕ). take at b ++ x ++ drop (at + n) b) (take_all n (take n s) (omega (arith, length-take-le n s h)))
 
 -- bytes put after those that a buffer has
 pub put_filled : (t s : List ℕ) (at n : ℕ) → length t ≡ at → at + n ≤ 64 → n ≤ length s → paste (filled 64 t) at s n ≡ filled 64 (t ++ take n s)

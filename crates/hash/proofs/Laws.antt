@@ -1,16 +1,21 @@
 -- What the crates above need: a state holds what it is made with, bytes poured one after the other are poured at once, a hash that is
 -- begun, fed in any parts and ended is the hash, and a hash is 32 octets. Assumes nothing.
-use mathlib.Core.Path.{◌≡◌, refl, sym, ap, ap₂, ◌∙◌}
-use mathlib.Core.Bool.{Bool, true, false, not}
+use mathlib.Core.Path.{◌≡◌, refl, sym, ap, ap₂, ◌∙◌, subst}
+use mathlib.Core.Bool.{Bool, true, false, not, cond, true≢false}
+use Rattle.std.specs.Prelude.{Result, Ok, Err}
+use Rattle.std.specs.Result.{result_unwrap_or}
+use Rattle.answers.specs.declared.Refusal.{Refusal}
+use Rattle.answers.specs.declared.Refusal.TheVariants.{Input}
+use Rattle.answers.specs.Answers.{number_told}
 use mathlib.Core.List.{List, [], ◌++◌}
 use Prim.Native.Nat.{ℕ, ◌+◌, ◌*◌, ◌<◌}
 use native.Mathlib.Omega.{arith}
 use lib.Dec.{lit<}
 use lib.ListN.{length, length-drop}
 use Rattle.blocks.specs.Blocks.{absorbed, tail}
-use Rattle.blocks.specs.Parts.{fits, poured, counted, CutAnyWay}
+use Rattle.blocks.specs.Parts.{fits, part_number, poured, counted, after, CutAnyWay}
 use Rattle.blocks.proofs.Laws.{tail_short}
-use Rattle.blocks.proofs.PartLaws.{held_filled, Keeps, refused, accepted, total_poured, poured_none, poured_poured, settled_none, cut_any_way}
+use Rattle.blocks.proofs.PartLaws.{held_filled, Keeps, total_poured, poured_none, poured_poured, settled_none, cut_any_way}
 use Rattle.octets.specs.Numbers.{Octets}
 use Rattle.octets.proofs.Parts.{octets-drop}
 use Rattle.lps.specs.Vectors.{X, words, bytes}
@@ -69,26 +74,51 @@ pub ended_total : (s : State) (m : List ℕ) (n k : ℕ) → ended (poured hash_
 unfolding ended poured held state_of
 ended_total s m n k = refl
 
+-- an answer by a test: r is what the code found, b what it tests, x the value
+module _ {T : Type 0} (x : T) where
+  pub refused : (r b : Bool) → r ≡ b → not r ≡ true → ◌≡◌ {A = Result T Refusal} (Err Input) (cond b (Ok x) (Err Input))
+  refused true b e h = absurd (true≢false (sym h))
+  refused false b e h = ap (λ (c : Bool). cond {A = Result T Refusal} c (Ok x) (Err Input)) e
+
+  pub accepted : (r b : Bool) → r ≡ b → not r ≡ false → ◌≡◌ {A = Result T Refusal} (Ok x) (cond b (Ok x) (Err Input))
+  accepted true b e h = ap (λ (c : Bool). cond {A = Result T Refusal} c (Ok x) (Err Input)) e
+  accepted false b e h = absurd (true≢false h)
+
+  -- its number, and what it leaves
+  pub told : (b : Bool) → number_told (cond {A = Result T Refusal} b (Ok x) (Err Input)) ≡ cond b 0 1
+  told true = refl
+  told false = refl
+
+  pub left : (y : T) (b : Bool) → result_unwrap_or (cond {A = Result T Refusal} b (Ok x) (Err Input)) y ≡ cond b x y
+  left y true = refl
+  left y false = refl
+
+-- the same numbers and the same states are cut alike
+pub cut_alike : {S R : Type 0} {b : S} {n k : S → List ℕ → ℕ} {x y : S → List ℕ → S} {e : S → R} {a : List ℕ → R}
+    → ((s : S) (m : List ℕ) → n s m ≡ k s m) → ((s : S) (m : List ℕ) → x s m ≡ y s m) → CutAnyWay b n x e a → CutAnyWay b k y e a
+cut_alike {S} {R} {b} {n} {k} {x} {y} {e} {a} p q c =
+    subst (λ (f : S → List ℕ → ℕ). CutAnyWay b f y e a) (λ i s m. p s m i) (subst (λ (f : S → List ℕ → S). CutAnyWay b n f e a) (λ i s m. q s m i) c)
+
 -- a part as the code answers it
 module _ (s : State) (m : List ℕ) where
-  pub fed_not : (r : Bool) → r ≡ fits s.total (length m) → not r ≡ true → record { code = 1; state = s } ≡ fed s m
+  pub fed_not : (r : Bool) → r ≡ fits s.total (length m) → not r ≡ true → Err Input ≡ fed s m
   unfolding fed
-  fed_not r e h = let p = refused hash_way hash_keeps s m r e h in (λ k. record { code = p.0 k; state = p.1 k })
+  fed_not r e h = refused (counted hash_way s m) r (fits s.total (length m)) e h
 
   pub fed_fits : (r : Bool) → r ≡ fits s.total (length m) → not r ≡ false → (t : State) → t ≡ poured_into s m
-      → record { code = 0; state = record { core = t.core; buffer = t.buffer; fill = t.fill; total = s.total + length m } } ≡ fed s m
+      → Ok (record { core = t.core; buffer = t.buffer; fill = t.fill; total = s.total + length m }) ≡ fed s m
   unfolding fed counted poured_into poured state_of
   fed_fits r e h t q =
-      let p = accepted hash_way hash_keeps s m r e h in
-      ap (λ (x : State). record { code = 0; state = record { core = x.core; buffer = x.buffer; fill = x.fill; total = s.total + length m } }) q
-      ∙ (λ k. record { code = p.0 k; state = p.1 k })
+      ap (λ (x : State). Ok (record { core = x.core; buffer = x.buffer; fill = x.fill; total = s.total + length m })) q
+      ∙ accepted (counted hash_way s m) r (fits s.total (length m)) e h
 
 -- Wish 5, for the hash
-pub hash_cut : CutAnyWay begun (λ s m. (fed s m).code) (λ s m. (fed s m).state) ended hash256
-unfolding begun counted fed
+pub hash_cut : CutAnyWay begun (λ s m. number_told (fed s m)) (λ s m. result_unwrap_or (fed s m) s) ended hash256
+unfolding begun counted fed part_number after
 hash_cut =
-    cut_any_way hash_way hash_keeps begun ended hash256 (settled_none hash_way hash_keeps begun start 0) (total_state_of start [] 0)
-    (λ m. ended_whole m (begun.total + length m))
+    cut_alike (λ s m. sym (told (counted hash_way s m) (fits s.total (length m)))) (λ s m. sym (left (counted hash_way s m) s (fits s.total (length m))))
+    (cut_any_way hash_way hash_keeps begun ended hash256 (settled_none hash_way hash_keeps begun start 0) (total_state_of start [] 0)
+    (λ m. ended_whole m (begun.total + length m)))
 
 pub ended_poured : (m : List ℕ) → ended (poured_into begun m) ≡ hash256 m
 unfolding poured_into

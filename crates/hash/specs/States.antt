@@ -1,10 +1,11 @@
 -- A hash under way, fed in parts of any length. Assumes nothing.
-use Rattle.std.specs.Prelude.{List, [], ℕ, ◌%◌, length, take}
-use Rattle.blocks.specs.Parts.{Way, filled, poured, part_number, after}
+use Rattle.std.specs.Prelude.{cond, List, [], ℕ, ◌%◌, length, take, Result, Ok, Err}
+use Rattle.answers.specs.declared.Refusal.{Refusal}
+use Rattle.answers.specs.declared.Refusal.TheVariants.{Input}
+use Rattle.blocks.specs.Parts.{Way, filled, fits, poured, counted}
 use Rattle.hash.specs.Hash.{start, block_step, finished}
 use Rattle.hash.specs.declared.Core.{Core}
 use Rattle.hash.specs.declared.State.{State}
-use Rattle.hash.specs.declared.Fed.{Fed}
 
 -- the state at a core that holds the bytes t, of a total n
 unfoldable pub state_of : Core → List ℕ → ℕ → State
@@ -26,8 +27,8 @@ unfoldable pub poured_into : State → List ℕ → State
 poured_into s m = poured hash_way s m s.total
 
 -- Wish 5: one part more
-unfoldable pub fed : State → List ℕ → Fed
-fed s m = record { code = part_number s.total m; state = after hash_way s m }
+unfoldable pub fed : State → List ℕ → Result State Refusal
+fed s m = cond (fits s.total (length m)) (Ok (counted hash_way s m)) (Err Input)
 
 -- the hash of all the bytes so far
 unfoldable pub ended : State → List ℕ

@@ -1,7 +1,7 @@
 // The hash of GOST R 34.11-2012 with 256 bits (RFC 6986), of a message at once or in parts of any length.
 #![tactic(auto)]
 
-ghost use Rattle.std.specs.Prelude.{◌≡◌, [], ◌∷◌, ◌+◌, ◌<◌, ◌≤◌, length, take, drop};
+ghost use Rattle.std.specs.Prelude.{◌≡◌, ◌+◌, ◌*◌, ◌≤◌, length, take, drop};
 ghost use Rattle.std.proofs.Math.Seq.{paste};
 ghost use Rattle.octets.specs.Numbers.{le};
 ghost use Rattle.blocks.specs.Blocks.{absorbed};
@@ -12,7 +12,6 @@ ghost use Rattle.hash.specs.Ahead.{ahead_of, core_in, closed_over, last_block, e
 
 use answers::Refusal;
 use blocks::fits;
-use octets::octet;
 use rounds::{
     add, compress_block, compress_block_over, compress_over, compress_upper, compress_with,
     iteration_constants, lay, round_keys, vector,
@@ -35,42 +34,14 @@ pub struct State {
     pub total: u32,
 }
 
-// A hash that was fed: 0, or refusal 1 and the state as it was.
-#[derive(Clone, Copy)]
-pub struct Fed {
-    pub code: u8,
-    pub state: State,
-}
-
-// The word of eight bytes, lowest first.
-fn word(b0: u8, b1: u8, b2: u8, b3: u8, b4: u8, b5: u8, b6: u8, b7: u8) -> u64
-    ensures { result ≡ le (b0 ∷ b1 ∷ b2 ∷ b3 ∷ b4 ∷ b5 ∷ b6 ∷ b7 ∷ []) }
-{
-    let x7 = b7 as u64;
-    let x6 = b6 as u64 + 256 * x7;
-    let x5 = b5 as u64 + 256 * x6;
-    let x4 = b4 as u64 + 256 * x5;
-    let x3 = b3 as u64 + 256 * x4;
-    let x2 = b2 as u64 + 256 * x3;
-    let x1 = b1 as u64 + 256 * x2;
-    b0 as u64 + 256 * x1
-}
-
-// The word of eight bytes from p on.
+// The word of eight bytes from p on, lowest first.
 fn word_at(m: &[u8], p: usize) -> u64
     requires { p + 8 ≤ length m.now }
     ensures { result ≡ le (take 8 (drop p m.now)) }
 {
-    word(
-        m[p],
-        m[p + 1],
-        m[p + 2],
-        m[p + 3],
-        m[p + 4],
-        m[p + 5],
-        m[p + 6],
-        m[p + 7],
-    )
+    let mut b = [0; 8];
+    b.copy_from_slice(&m[p..p + 8]);
+    u64::from_le_bytes(b)
 }
 
 // The block of 64 bytes from p on, as a vector.
@@ -97,16 +68,22 @@ pub fn words_of(b: [u8; 64]) -> [u64; 8]
     load(&b, 0)
 }
 
+// The bytes of words, written over all of r.
+fn put_words(r: &mut [u8], v: &[u64])
+    requires { length r.old ≡ 8 * length v.now }
+    ensures { r.new ≡ bytes v.now }
+{
+    for (i, w) in v.iter().enumerate() {
+        r[8 * i..8 * i + 8].copy_from_slice(&w.to_le_bytes());
+    }
+}
+
 // The bytes of a block's words.
 pub fn bytes_of(v: [u64; 8]) -> [u8; 64]
     ensures { result ≡ bytes v }
 {
     let mut r = [0; 64];
-    let mut k = 0;
-    while k < 64 {
-        r[k] = octet(v[k / 8], k);
-        k += 1;
-    }
+    put_words(&mut r, &v);
     r
 }
 
@@ -114,14 +91,10 @@ pub fn bytes_of(v: [u64; 8]) -> [u8; 64]
 fn after_block(c: Core, h: [u64; 8], bits: u64, m: [u64; 8]) -> Core
     ensures { result ≡ after_block c h bits m }
 {
-    let n = c.n;
-    let sigma = c.sigma;
-    let n2 = add(n, [bits, 0, 0, 0, 0, 0, 0, 0]);
-    let s2 = add(sigma, m);
     Core {
         h,
-        n: n2,
-        sigma: s2,
+        n: add(c.n, [bits, 0, 0, 0, 0, 0, 0, 0]),
+        sigma: add(c.sigma, m),
     }
 }
 
@@ -129,9 +102,7 @@ fn after_block(c: Core, h: [u64; 8], bits: u64, m: [u64; 8]) -> Core
 fn advance(c: Core, bits: u64, m: [u64; 8]) -> Core
     ensures { result ≡ advanced c bits m }
 {
-    let h = c.h;
-    let n = c.n;
-    after_block(c, compress_block(n, h, m), bits, m)
+    after_block(c, compress_block(c.n, c.h, m), bits, m)
 }
 
 // The whole blocks of m from a place on. The constants are made once for them.
@@ -139,18 +110,15 @@ fn absorb(c: Core, m: &[u8], from: usize) -> Core
     requires { from ≤ length m.now }
     ensures { result ≡ absorbed 64 block_step c (drop from m.now) }
 {
-    if m.len() - from < 64 {
+    let blocks = (m.len() - from) / 64;
+    if blocks == 0 {
         return c;
     }
     let cs = iteration_constants();
     let mut core = c;
-    let mut p = from;
-    while 64 <= m.len() - p {
-        let b = load(m, p);
-        let h = core.h;
-        let n = core.n;
-        core = after_block(core, compress_over(&cs, n, h, b), 512, b);
-        p += 64;
+    for i in 0..blocks {
+        let b = load(m, from + 64 * i);
+        core = after_block(core, compress_over(&cs, core.n, core.h, b), 512, b);
     }
     core
 }
@@ -161,11 +129,7 @@ fn put(b: [u8; 64], at: usize, m: &[u8], from: usize, n: usize) -> [u8; 64]
     ensures { result ≡ paste b at (drop from m.now) n }
 {
     let mut out = b;
-    let mut i = 0;
-    while i < n {
-        out[at + i] = m[from + i];
-        i += 1;
-    }
+    out[at..at + n].copy_from_slice(&m[from..from + n]);
     out
 }
 
@@ -173,13 +137,12 @@ fn put(b: [u8; 64], at: usize, m: &[u8], from: usize, n: usize) -> [u8; 64]
 pub fn begin() -> State
     ensures { result ≡ begun }
 {
-    let core = Core {
-        h: [0x0101010101010101; 8],
-        n: [0; 8],
-        sigma: [0; 8],
-    };
     State {
-        core: core,
+        core: Core {
+            h: [0x0101010101010101; 8],
+            n: [0; 8],
+            sigma: [0; 8],
+        },
         buffer: [0; 64],
         fill: 0,
         total: 0,
@@ -190,22 +153,20 @@ pub fn begin() -> State
 pub fn pour(s: State, m: &[u8]) -> State
     ensures { result ≡ poured_into s m.now }
 {
-    let core = s.core;
-    let buffer = s.buffer;
     let at = s.fill % 64;
-    let kept = put([0; 64], 0, &buffer, 0, at);
+    let kept = put([0; 64], 0, &s.buffer, 0, at);
     let need = 64 - at;
     if m.len() < need {
         let b = put(kept, at, m, 0, m.len());
         return State {
-            core: core,
+            core: s.core,
             buffer: b,
             fill: at + m.len(),
             total: s.total,
         };
     }
     let full = put(kept, at, m, 0, need);
-    let core1 = advance(core, 512, load(&full, 0));
+    let core1 = advance(s.core, 512, load(&full, 0));
     let core2 = absorb(core1, m, need);
     let left = (m.len() - need) % 64;
     let b = put([0; 64], 0, m, m.len() - left, left);
@@ -218,19 +179,16 @@ pub fn pour(s: State, m: &[u8]) -> State
 }
 
 // One part of the message more, of any length. 1: the total would pass 4,294,967,295 bytes.
-pub fn feed(s: State, m: &[u8]) -> Fed
+pub fn feed(s: State, m: &[u8]) -> Result<State, Refusal>
     ensures { result ≡ fed s m.now }
 {
     if !fits(s.total, m.len()) {
-        return Fed {
-            code: Refusal::INPUT,
-            state: s,
-        };
+        return Err(Refusal::Input);
     }
     let total = s.total + m.len() as u32;
     let mut state = pour(s, m);
     state.total = total;
-    Fed { code: 0, state }
+    Ok(state)
 }
 
 // The last block of a message of less than a block, padded; of another, zeros.
@@ -245,27 +203,14 @@ pub fn last_block(m: &[u8]) -> [u64; 8]
     load(&last, 0)
 }
 
-// The bytes of four words.
-fn digest(v: [u64; 4]) -> [u8; 32]
-    ensures { result ≡ bytes v }
-{
-    let mut r = [0; 32];
-    let mut k = 0;
-    while k < 32 {
-        r[k] = octet(v[k / 8], k);
-        k += 1;
-    }
-    r
-}
-
 // The count and the sum taken in with the constants cs, and the upper half.
 fn close(cs: &[[u64; 8]], c: Core) -> [u8; 32]
     ensures { result ≡ closed_over cs.now c }
 {
-    let h = c.h;
-    let n = c.n;
-    let sigma = c.sigma;
-    digest(compress_upper(cs, [0; 8], compress_over(cs, [0; 8], h, n), sigma))
+    let v = compress_upper(cs, [0; 8], compress_over(cs, [0; 8], c.h, c.n), c.sigma);
+    let mut r = [0; 32];
+    put_words(&mut r, &v);
+    r
 }
 
 // The hash of all the bytes fed. The constants are made once for its last three compressions.
@@ -273,13 +218,15 @@ pub fn end(s: State) -> [u8; 32]
     ensures { result ≡ ended s }
 {
     let core = s.core;
-    let buffer = s.buffer;
     let at = s.fill % 64;
-    let m = last_block(&buffer[0..at]);
-    let h = core.h;
-    let n = core.n;
+    let m = last_block(&s.buffer[..at]);
     let cs = iteration_constants();
-    let c = after_block(core, compress_block_over(&cs, n, h, m), at as u64 * 8, m);
+    let c = after_block(
+        core,
+        compress_block_over(&cs, core.n, core.h, m),
+        at as u64 * 8,
+        m,
+    );
     close(&cs, c)
 }
 
@@ -294,15 +241,11 @@ pub fn hash(m: &[u8]) -> [u8; 32]
 pub fn keep(c: Core) -> [u64; 128]
     ensures { result ≡ ahead_of c }
 {
-    let h = c.h;
-    let n = c.n;
-    let sigma = c.sigma;
-    let keys = round_keys(n, h);
     let mut r = [0; 128];
-    lay(&mut r, 0, &h);
-    lay(&mut r, 8, &n);
-    lay(&mut r, 16, &sigma);
-    lay(&mut r, 24, &keys);
+    lay(&mut r, 0, &c.h);
+    lay(&mut r, 8, &c.n);
+    lay(&mut r, 16, &c.sigma);
+    lay(&mut r, 24, &round_keys(c.n, c.h));
     r
 }
 
@@ -310,10 +253,11 @@ pub fn keep(c: Core) -> [u64; 128]
 fn core_in(a: &[u64]) -> Core
     ensures { result ≡ core_in a.now }
 {
-    let h = vector(a, 0);
-    let n = vector(a, 8);
-    let sigma = vector(a, 16);
-    Core { h, n, sigma }
+    Core {
+        h: vector(a, 0),
+        n: vector(a, 8),
+        sigma: vector(a, 16),
+    }
 }
 
 // The hash that a last block ends after kept words, with the constants cs; 32 zeros where the words are not 128.
@@ -324,9 +268,8 @@ pub fn end_block(cs: &[[u64; 8]], a: &[u64], bits: u64, m: [u64; 8]) -> [u8; 32]
         return [0; 32];
     }
     let core = core_in(a);
-    let h = core.h;
     close(
         cs,
-        after_block(core, compress_with(&a[24..], h, m), bits, m),
+        after_block(core, compress_with(&a[24..], core.h, m), bits, m),
     )
 }

@@ -5,20 +5,19 @@ use mathlib.Core.List.{List, [], ◌∷◌}
 use mathlib.Core.Bool.{Bool, true, false, not, ◌&&◌, ◌||◌, true≢false, false≢true}
 use lib.ListN.{length}
 use lib.Dec.{eqb}
-use borrow.Author.Tests.{eqb-true, eqb-false, eq-eqb, not-false}
+use borrow.Author.Tests.{eqb-true, eqb-false}
+use Rattle.std.specs.Prelude.{Result, Ok, Err, is_ok, is_err}
 use Rattle.answers.specs.declared.Refusal.{Refusal}
 use Rattle.answers.specs.declared.Refusal.TheVariants.{Input, ShapeWrong, PhaseWrong, CounterFull, CodeDiffers, PinFormat, SpoiltClosed, ArpcDiffers, WrongPin, NoTries}
 use Rattle.answers.specs.Refusals.{number}
 use Rattle.octets.specs.Same.{same}
 use Rattle.shapes.specs.declared.command.Command.{Command}
 use Rattle.shapes.specs.declared.command.Command.TheVariants.{SetPin, SetMark, ClearMark}
-use Rattle.shapes.specs.declared.command.Listed.{Listed}
-use Rattle.shapes.specs.declared.command.Listed.TheVariants.{One, Unlisted}
 use Rattle.shapes.specs.Shape.{length_of, tag_of, data_of, shape as hasShape}
 use Rattle.shapes.specs.Command.{command_of}
 use Rattle.shapes.proofs.CommandLaws.{why_unlisted_lem}
 use Rattle.derive.specs.Derivation.{derived, card_label}
-use Rattle.pin.specs.declared.PinRead.{PinRead}
+use Rattle.pin.specs.declared.Pin.{Pin}
 use Rattle.pin.specs.Answers.{decipher_pin}
 use Rattle.message.specs.Code.{code_fits}
 use Rattle.transaction.specs.declared.Phase.{Phase}
@@ -32,17 +31,19 @@ use Rattle.card.specs.Calls.{Call, Open, IssuerAnswer, Script, Close, Withdraw, 
 use Rattle.card.specs.Calls.{Verdict, refuse, strikes, first_struck, read, unlisted, why_unlisted, unread, judged_script, arpc_for, judged, judged_under, gives, accepted, due_by, after_by, due_under, after_under, reply, plain, step}
 use Rattle.history.specs.Demand2.{Accepts, Differs, block_read}
 
-no_command : (q : Refusal) (c : Command) → Unlisted q ≡ One c → ⊥
+no_command : (q : Refusal) (c : Command) → ◌≡◌ {A = Result Command Refusal} (Err q) (Ok c) → ⊥
 no_command q c e = true≢false (ap unlisted e)
 
 -- the table's words for the checks of a message, and the demands'
-unread_so : (c : Command) (x : PinRead) → (c ≡ SetPin → x.code ≡ 0) → unread (One c) x ≡ false
-unread_so SetPin x f = rw (eq-eqb _ _ (f refl))
+unread_so : (c : Command) (x : Result Pin Refusal) → (c ≡ SetPin → is_ok x ≡ true) → unread (Ok c) x ≡ false
+unread_so SetPin (Ok p) f = refl
+unread_so SetPin (Err q) f = absurd (false≢true (f refl))
 unread_so SetMark x f = refl
 unread_so ClearMark x f = refl
 
-read_so : (c : Command) (x : PinRead) → unread (One c) x ≡ false → c ≡ SetPin → x.code ≡ 0
-read_so c x e z = eqb-true _ _ (not-false _ (subst (λ (k : Command). unread (One k) x ≡ false) z e))
+read_so : (c : Command) (x : Result Pin Refusal) → unread (Ok c) x ≡ false → c ≡ SetPin → is_ok x ≡ true
+read_so c (Ok p) e z = refl
+read_so c (Err q) e z = absurd (true≢false (subst (λ (k : Command). unread (Ok k) (Err q) ≡ false) z e))
 
 pub same_code : (r : Card) (h m : List ℕ) → code_fits (smi_key r) h m ≡ code_fits (derived r.smi card_label r.transaction.cryptogram) h m
 unfolding smi_key
@@ -52,7 +53,7 @@ pub same_block : (r : Card) (b : List ℕ) → decipher_pin (smc_key r) b ≡ bl
 unfolding smc_key
 same_block r b = refl
 
-pub format_so : {r : Card} {h m : List ℕ} (a : Accepts r h m) → unread (One a.command) (read r h m).block ≡ false
+pub format_so : {r : Card} {h m : List ℕ} (a : Accepts r h m) → unread (Ok a.command) (read r h m).block ≡ false
 unfolding smc_key
 format_so {r} {h} {m} a = unread_so a.command (read r h m).block a.format
 
@@ -142,7 +143,7 @@ module _ (r : Card) (ok : isSound r ≡ true) where
   unfolding judged_under
   of_check b =
       let x = decipher_pin (smc_key r) b in
-      go (is_open r.transaction.phase) (eqb (length b) 8) (eqb r.tries 0) (eqb r.counters.decipherments 65535) (eqb x.code 0) (is_kept r x)
+      go (is_open r.transaction.phase) (eqb (length b) 8) (eqb r.tries 0) (eqb r.counters.decipherments 65535) (is_err x) (is_kept r x)
     where
       go : (o l t f p k : Bool)
           → Change r (CheckPin b)
@@ -152,16 +153,16 @@ module _ (r : Card) (ok : isSound r ≡ true) where
           ∷ strikes (not l) Input
           ∷ strikes t NoTries
           ∷ strikes f CounterFull
-          ∷ strikes (not p) PinFormat
+          ∷ strikes p PinFormat
           ∷ strikes (not k) WrongPin
           ∷ [])))
       go false l t f p k = spared PhaseWrong refl refl
       go true false t f p k = spared Input refl refl
       go true true true f p k = spared NoTries refl refl
       go true true false true p k = spared CounterFull refl refl
-      go true true false false false k = misread
-      go true true false false true false = mistaken
-      go true true false false true true = recognised
+      go true true false false true k = misread
+      go true true false false false false = mistaken
+      go true true false false false true = recognised
 
   of_withdraw : Change r Withdraw (by r Withdraw (judged r Withdraw))
   unfolding judged_under
@@ -183,7 +184,7 @@ module _ (r : Card) (ok : isSound r ≡ true) where
         go (is_open r.transaction.phase) (eqb (length h) 4) (hasShape m) (command_of h (tag_of m) (length_of m)) (eqb r.counters.failures 65535) (code_fits (smi_key r) h m)
         (unread (command_of h (tag_of m) (length_of m)) (read r h m).block) refl refl refl refl refl refl refl
       where
-        go : (o l x : Bool) (q : Listed) (f k p : Bool) → is_open r.transaction.phase ≡ o → eqb (length h) 4 ≡ l → hasShape m ≡ x → command_of h (tag_of m) (length_of m) ≡ q
+        go : (o l x : Bool) (q : Result Command Refusal) (f k p : Bool) → is_open r.transaction.phase ≡ o → eqb (length h) 4 ≡ l → hasShape m ≡ x → command_of h (tag_of m) (length_of m) ≡ q
             → eqb r.counters.failures 65535 ≡ f → code_fits (smi_key r) h m ≡ k → unread (command_of h (tag_of m) (length_of m)) (read r h m).block ≡ p
             → Change r (Script h m)
             (by r (Script h m)
@@ -199,10 +200,10 @@ module _ (r : Card) (ok : isSound r ≡ true) where
         go false l x q f k p eo el ex eq ef ek ep = idles eo
         go true false x q f k p eo el ex eq ef ek ep = spoils Input eo refl (λ a. eqb-false _ _ el a.header)
         go true true false q f k p eo el ex eq ef ek ep = spoils ShapeWrong eo refl (λ a. false≢true (sym ex ∙ a.shape))
-        go true true true (Unlisted w) f k p eo el ex eq ef ek ep =
+        go true true true (Err w) f k p eo el ex eq ef ek ep =
             spoils w eo (ap (λ (q : Refusal). eqb (number q) 8) (why_unlisted_lem h (tag_of m) (length_of m) w eq)) (λ a. no_command w a.command (sym eq ∙ a.instruction))
-        go true true true (One c) true k p eo el ex eq ef ek ep = spoils CounterFull eo refl (λ a. a.counter (eqb-true _ _ ef))
-        go true true true (One c) false false p eo el ex eq ef ek ep =
+        go true true true (Ok c) true k p eo el ex eq ef ek ep = spoils CounterFull eo refl (λ a. a.counter (eqb-true _ _ ef))
+        go true true true (Ok c) false false p eo el ex eq ef ek ep =
             differs
             (record {
               sound = ok;
@@ -215,9 +216,9 @@ module _ (r : Card) (ok : isSound r ≡ true) where
               code = sym (same_code r h m) ∙ ek;
             })
             (λ a. false≢true (sym ek ∙ same_code r h m ∙ a.code))
-        go true true true (One c) false true true eo el ex eq ef ek ep =
+        go true true true (Ok c) false true true eo el ex eq ef ek ep =
             spoils PinFormat eo refl (λ a. true≢false (sym ep ∙ rw a.instruction (format_so a)))
-        go true true true (One c) false true false eo el ex eq ef ek ep =
+        go true true true (Ok c) false true false eo el ex eq ef ek ep =
             took
             (record {
               sound = ok;
@@ -228,7 +229,7 @@ module _ (r : Card) (ok : isSound r ≡ true) where
               instruction = eq;
               counter = eqb-false _ _ ef;
               code = sym (same_code r h m) ∙ ek;
-              format = λ z. sym (ap (λ (x : PinRead). x.code) (same_block r (data_of m))) ∙ read_so c (read r h m).block (sym (ap (λ (l : Listed). unread l (read r h m).block) eq) ∙ ep) z;
+              format = λ z. sym (ap is_ok (same_block r (data_of m))) ∙ read_so c (read r h m).block (sym (ap (λ (l : Result Command Refusal). unread l (read r h m).block) eq) ∙ ep) z;
             })
 
   of_call : (c : Call) → Change r c (by r c (judged r c))

@@ -5,9 +5,10 @@ use mathlib.Core.Bool.{Bool, true, false, and-false}
 use mathlib.Core.List.{List}
 use lib.Dec.{eqb}
 use borrow.Author.Tests.{eq-eqb, ne_eqb}
+use Rattle.std.specs.Prelude.{Ok}
 use Rattle.octets.specs.Same.{same}
 use Rattle.octets.proofs.SameLaws.{same_refl, same_true}
-use Rattle.pin.specs.declared.PinRead.{PinRead}
+use Rattle.pin.specs.declared.Pin.{Pin}
 use Rattle.card.specs.declared.Card.{Card}
 use Rattle.card.specs.Keys.{smc_key}
 use Rattle.card.specs.Calls.{CheckPin, is_kept, judged_under, due_under, step}
@@ -22,13 +23,10 @@ differing p q n = go (same p q) refl
     go false e = e
 
 module _ (r : Card) (b : List ℕ) where
-  abbrev x : PinRead
-  x = block_read r b
-
-  others : (is_kept r x ≡ false) → Tried r b → x.code ≡ 0 → (step r (CheckPin b)).code ≡ 14
+  others : (p : Pin) → is_kept r (Ok p) ≡ false → Tried r b → block_read r b ≡ Ok p → (step r (CheckPin b)).code ≡ 14
   unfolding judged_under due_under smc_key
-  others k t c =
-      rw (t.presented.sound, t.presented.phase, eq-eqb _ _ t.presented.eight, ne_eqb _ _ t.tries, ne_eqb _ _ t.counter, eq-eqb _ _ c, k)
+  others p k t c =
+      rw (t.presented.sound, t.presented.phase, eq-eqb _ _ t.presented.eight, ne_eqb _ _ t.tries, ne_eqb _ _ t.counter, c, k)
 
   checked : Checked r b
   unfolding judged_under due_under smc_key
@@ -39,12 +37,12 @@ module _ (r : Card) (b : List ℕ) where
         other_length = λ s o l. rw (s, o, ne_eqb _ _ l);
         no_tries = λ p n. rw (p.sound, p.phase, eq-eqb _ _ p.eight, eq-eqb _ _ n);
         full = λ p n d. rw (p.sound, p.phase, eq-eqb _ _ p.eight, ne_eqb _ _ n, eq-eqb _ _ d);
-        misread = λ t c. rw (t.presented.sound, t.presented.phase, eq-eqb _ _ t.presented.eight, ne_eqb _ _ t.tries, ne_eqb _ _ t.counter, ne_eqb _ _ c);
-        wrong_count = λ t c n. others (rw (ne_eqb _ _ n)) t c;
-        wrong_digits = λ t c n. others (rw (differing _ _ n) (and-false (eqb x.count r.count))) t c;
-        right = λ t c n p.
-            let k : is_kept r x ≡ true = rw (eq-eqb _ _ n) (subst (λ (q : List ℕ). same x.pin q ≡ true) p (same_refl x.pin)) in
-            rw (t.presented.sound, t.presented.phase, eq-eqb _ _ t.presented.eight, ne_eqb _ _ t.tries, ne_eqb _ _ t.counter, eq-eqb _ _ c, k);
+        misread = λ t c. rw (t.presented.sound, t.presented.phase, eq-eqb _ _ t.presented.eight, ne_eqb _ _ t.tries, ne_eqb _ _ t.counter, c);
+        wrong_count = λ p t c n. others p (rw (ne_eqb _ _ n)) t c;
+        wrong_digits = λ p t c n. others p (rw (differing _ _ n) (and-false (eqb p.count r.count))) t c;
+        right = λ p t c n d.
+            let k : is_kept r (Ok p) ≡ true = rw (eq-eqb _ _ n) (subst (λ (q : List ℕ). same p.digits q ≡ true) d (same_refl p.digits)) in
+            rw (t.presented.sound, t.presented.phase, eq-eqb _ _ t.presented.eight, ne_eqb _ _ t.tries, ne_eqb _ _ t.counter, c, k);
       }
 
 pub checks_exactly : ChecksExactly

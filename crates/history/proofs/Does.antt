@@ -7,12 +7,12 @@ use mathlib.Core.Bool.{true, false}
 use mathlib.Core.List.{List}
 use lib.ListN.{length}
 use borrow.Author.Tests.{eq-eqb, ne_eqb}
+use Rattle.std.specs.Prelude.{Result, Ok, is_ok}
+use Rattle.answers.specs.declared.Refusal.{Refusal}
 use Rattle.octets.specs.Same.{same}
 use Rattle.octets.proofs.SameLaws.{same_refl}
 use Rattle.shapes.specs.declared.command.Command.{Command}
 use Rattle.shapes.specs.declared.command.Command.TheVariants.{SetPin}
-use Rattle.shapes.specs.declared.command.Listed.{Listed}
-use Rattle.shapes.specs.declared.command.Listed.TheVariants.{One}
 use Rattle.shapes.specs.Length.{largest}
 use Rattle.shapes.specs.Shape.{data_of, place_of}
 use Rattle.shapes.specs.Command.{header_of, tag_for, length_for, command_of}
@@ -21,7 +21,7 @@ use Rattle.gost.specs.Gost.{subkeys}
 use Rattle.derive.specs.Derivation.{derived, card_label}
 use Rattle.derive.proofs.Laws.{length-derived}
 use Rattle.keys.specs.Seeds.{session_seed}
-use Rattle.pin.specs.declared.PinRead.{PinRead}
+use Rattle.pin.specs.declared.Pin.{Pin}
 use Rattle.message.specs.Code.{message, given}
 use Rattle.message.proofs.CodeLaws.{given_so}
 use Rattle.message.proofs.Return.{open_made, data_made, Taken, taken}
@@ -52,7 +52,7 @@ module _ (r : Card) (c : Command) (d : List ℕ) (l : length d ≡ length_for c)
   its_block : block_read r (data_of (wrapped_for r c d)) ≡ block_read r d
   its_block = ap (block_read r) (data_made _ (header_of c) (tag_for c) d are_given (tag_listed c) few)
 
-  module _ (s : sound r ≡ true) (o : is_open r.transaction.phase ≡ true) (f : r.counters.failures ≡ 65535 → ⊥) (p : c ≡ SetPin → (block_read r d).code ≡ 0) where
+  module _ (s : sound r ≡ true) (o : is_open r.transaction.phase ≡ true) (f : r.counters.failures ≡ 65535 → ⊥) (p : c ≡ SetPin → is_ok (block_read r d) ≡ true) where
     pub accepts : Accepts r (header_of c) (wrapped_for r c d)
     accepts =
         record {
@@ -64,15 +64,15 @@ module _ (r : Card) (c : Command) (d : List ℕ) (l : length d ≡ length_for c)
           instruction = ap₂ (command_of (header_of c)) (sym made.the_tag) (sym made.the_length ∙ l) ∙ its_listed c;
           counter = f;
           code = made.coded_so;
-          format = λ z. ap (λ (x : PinRead). x.code) its_block ∙ p z;
+          format = λ z. ap is_ok its_block ∙ p z;
         }
 
-    pub takes_it : step r (Script (header_of c) (wrapped_for r c d)) ≡ plain (with_transaction r (pend_all (orders (One c) (block_read r d)) r.transaction)) 0
+    pub takes_it : step r (Script (header_of c) (wrapped_for r c d)) ≡ plain (with_transaction r (pend_all (orders (Ok c) (block_read r d)) r.transaction)) 0
     unfolding accepts
     takes_it =
         step_by r s (Script (header_of c) (wrapped_for r c d))
         ∙ ap (by r (Script (header_of c) (wrapped_for r c d))) (passed r (header_of c) (wrapped_for r c d) accepts)
-        ∙ ap₂ (λ (q : Listed) (x : PinRead). plain (with_transaction r (pend_all (orders q x) r.transaction)) 0) accepts.instruction (same_block r (data_of (wrapped_for r c d)) ∙ its_block)
+        ∙ ap₂ (λ (q : Result Command Refusal) (x : Result Pin Refusal). plain (with_transaction r (pend_all (orders q x) r.transaction)) 0) accepts.instruction (same_block r (data_of (wrapped_for r c d)) ∙ its_block)
 
 module _ (r : Card) (s : sound r ≡ true) where
   -- an Open with none open, of 65 bytes, where no counter is full

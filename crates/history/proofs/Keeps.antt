@@ -6,13 +6,16 @@ use mathlib.Core.Bool.{Bool, true, false, not, ◌&&◌, ◌||◌, cond, and-eq-
 use lib.Dec.{leb, eqb}
 use lib.ListN.{replicate}
 use native.Mathlib.Omega.{arith}
-use borrow.Author.Tests.{not-true, not-false, eqb-true, eqb-false, ne_eqb, le-leb, leb-true}
+use borrow.Author.Tests.{not-true, eqb-true, eqb-false, ne_eqb, le-leb, leb-true}
+use Rattle.std.specs.Prelude.{Result, Ok, Err, is_err}
+use Rattle.std.specs.Result.{result_unwrap_or}
+use Rattle.answers.specs.declared.Refusal.{Refusal}
 use Rattle.answers.specs.declared.Refusal.TheVariants.{Input, PinFormat}
+use Rattle.pin.specs.declared.Pin.{Pin}
 use Rattle.octets.specs.Same.{same}
 use Rattle.octets.proofs.SameLaws.{same_true}
 use Rattle.shapes.specs.declared.command.Command.{Command}
 use Rattle.shapes.specs.declared.command.Command.TheVariants.{SetPin, SetMark, ClearMark}
-use Rattle.shapes.specs.declared.command.Listed.TheVariants.{One}
 use Rattle.pin.specs.PinBlock.{pin_fits}
 use Rattle.pin.specs.Answers.{read_block}
 use Rattle.pin.proofs.BlockLaws.{fits}
@@ -27,7 +30,7 @@ use Rattle.card.specs.declared.Card.{Card}
 use Rattle.card.specs.declared.Reply.{Reply}
 use Rattle.card.specs.Record.{sound, kept, with_transaction, full_tries}
 use Rattle.card.specs.Calls.{Call, Withdraw, read, Order, new_pin, new_mark, orders, pend, pend_all, settled, judged_under, unread, strikes, first_struck, plain, settled_record, tries_after}
-use Rattle.card.specs.Personalise.{fresh, loaded_by, personalised}
+use Rattle.card.specs.Personalise.{pin_in, fresh, loaded_by, personalised}
 use Rattle.history.proofs.Own.{box, run}
 use Rattle.history.specs.Run.{Loading, personalised_with}
 use Rattle.history.specs.Ledger.{loaded}
@@ -82,12 +85,17 @@ unfoldable pub Fits : List Order → Type 0
 Fits [] = Unit {0}
 Fits (o ∷ os) = Fit o × Fits os
 
+set_fits : (x : Result Pin Refusal) → ((p : Pin) → x ≡ Ok p → pin_fits 0 p.count p.digits ≡ true) → unread (Ok SetPin) x ≡ false → Fits (orders (Ok SetPin) x)
+unfolding Fit Fits
+set_fits (Ok p) f e = (f p refl, tt)
+set_fits (Err q) f e = absurd (true≢false e)
+
 pub orders_fit : {r : Card} {h m : List ℕ} → Accepts r h m → Fits (orders (read r h m).command (read r h m).block)
 unfolding Fit Fits
 orders_fit {r} {h} {m} a = rw a.instruction (go a.command (format_so a))
   where
-    go : (c : Command) → unread (One c) (read r h m).block ≡ false → Fits (orders (One c) (read r h m).block)
-    go SetPin e = (deciphered-fits _ _ (eqb-true _ _ (not-false _ e)), tt)
+    go : (c : Command) → unread (Ok c) (read r h m).block ≡ false → Fits (orders (Ok c) (read r h m).block)
+    go SetPin e = set_fits (read r h m).block (λ p. deciphered-fits _ _ p) e
     go SetMark e = (tt, tt)
     go ClearMark e = (tt, tt)
 
@@ -163,20 +171,24 @@ sound_law r (c ∷ cs) s = sound_law (box r c).card cs (keeps s (change r s c))
 abbrev pub fresh_of : Loading → Card
 fresh_of l = fresh l.ac l.smi l.smc l.atc l.counters l.mark l.block l.tries
 
+-- a block that is read is of the PIN in it
+pin_so : (b : List ℕ) (p : Pin) → read_block b ≡ Ok p → pin_in b ≡ p
+pin_so b p e = ap (λ (x : Result Pin Refusal). result_unwrap_or x (record { digits = replicate 12 0; count = 0 })) e
+
 -- a fresh record: what personalisation accepts
 pub record Taken (l : Loading) : Type 0 where
   pub mark_so : leb l.mark 1 ≡ true
   pub tries_so : leb l.tries full_tries ≡ true
-  pub block_so : eqb (read_block l.block).code 0 ≡ true
+  pub block_so : read_block l.block ≡ Ok (pin_in l.block)
 
 pub taken : (l : Loading) → Fresh l → Taken l
 unfolding personalised
-taken l f = go (leb l.mark 1) (leb l.tries full_tries) (eqb (read_block l.block).code 0) refl refl refl f
+taken l f = go (leb l.mark 1) (leb l.tries full_tries) (read_block l.block) refl refl refl f
   where
-    go : (b n k : Bool) → leb l.mark 1 ≡ b → leb l.tries full_tries ≡ n → eqb (read_block l.block).code 0 ≡ k
-        → (loaded_by (fresh_of l) (first_struck (strikes (not b) Input ∷ strikes (not n) Input ∷ strikes (not k) PinFormat ∷ []))).code ≡ 0 → Taken l
-    go true true true eb en ek z = record { mark_so = eb; tries_so = en; block_so = ek }
-    go true true false eb en ek z = absurd (eqb-false 9 0 refl z)
+    go : (b n : Bool) (x : Result Pin Refusal) → leb l.mark 1 ≡ b → leb l.tries full_tries ≡ n → read_block l.block ≡ x
+        → (loaded_by (fresh_of l) (first_struck (strikes (not b) Input ∷ strikes (not n) Input ∷ strikes (is_err x) PinFormat ∷ []))).code ≡ 0 → Taken l
+    go true true (Ok p) eb en ek z = record { mark_so = eb; tries_so = en; block_so = ek ∙ ap Ok (sym (pin_so l.block p ek)) }
+    go true true (Err q) eb en ek z = absurd (eqb-false 9 0 refl z)
     go true false k eb en ek z = absurd (eqb-false 1 0 refl z)
     go false n k eb en ek z = absurd (eqb-false 1 0 refl z)
 
@@ -185,7 +197,7 @@ unfolding personalised
 started l f = rw ((taken l f).mark_so, (taken l f).tries_so, (taken l f).block_so)
 
 pub fresh_law : (l : Loading) → Fresh l → sound (loaded l) ≡ true
-fresh_law l f = ap (λ (a : Reply). sound a.card) (started l f) ∙ resting (fresh_of l) (read_fits l.block (eqb-true _ _ (taken l f).block_so)) (taken l f).tries_so
+fresh_law l f = ap (λ (a : Reply). sound a.card) (started l f) ∙ resting (fresh_of l) (read_fits l.block (pin_in l.block) (taken l f).block_so) (taken l f).tries_so
 
 -- with none open, a sound record has no transaction, and a withdrawal changes nothing
 none_by : (p : Phase) (g q : List ℕ) (n : ℕ) (m : PendingMark) (t : Bool) → p ≡ Idle → g ≡ replicate 8 0 → q ≡ replicate 12 0 → n ≡ 0 → m ≡ Nothing → t ≡ false

@@ -4,19 +4,20 @@ use mathlib.Core.Bool.{true, false}
 use mathlib.Core.List.{List, [], ◌∷◌}
 use Prim.Native.Nat.{ℕ}
 use lib.ListN.{length, replicate}
-use borrow.Author.Tests.{eq-eqb, ne_eqb}
+use borrow.Author.Tests.{eq-eqb}
+use Rattle.std.specs.Prelude.{Ok, is_err}
 use Rattle.octets.specs.Numbers.{le_octets, be_octets, be, le}
 use Rattle.octets.specs.Same.{same}
 use Rattle.octets.specs.Digits.{digits, pairs}
 use Rattle.shapes.specs.Length.{largest, largest_short, length_field, field_says}
 use Rattle.shapes.specs.Shape.{length_of, length_of_under, place_of_under, tag_fits, code_head, body_under, body_size_under, size_of_under, tag_of, data_of, data_of_under, body_of_under, code_in_under, shape, shape_under}
 use Rattle.shapes.specs.Command.{header_of, tag_for, length_for, is_for, listed, first_of, command_of}
-use Rattle.shapes.specs.Answers.{answer_under, shaped_under}
+use Rattle.shapes.specs.Answers.{shaped_under}
 use Rattle.cipher.specs.Answers.{block_fits}
 use Rattle.keys.specs.CardNumber.{X, sixteen, Y}
 use Rattle.pin.specs.PinBlock.{pin_fits, nibbles, fields, pin_block, well_formed, pin_of}
 use Rattle.pin.specs.CounterBlock.{counter_block, counters_of}
-use Rattle.pin.specs.Answers.{found, no_pin, write_pin, read_block, read_pin, decipher_pin}
+use Rattle.pin.specs.Answers.{found, write_pin, read_block, read_pin, decipher_pin}
 use Rattle.keys.specs.Seeds.{session_seed}
 use Rattle.cryptogram.specs.Answers.{kind_number}
 use Rattle.cryptogram.specs.Data.{width, widths, fields as dataFields, row, place, counter_place, issuer_place, kind_place, kind_bits, marked, card_data}
@@ -24,7 +25,6 @@ use Rattle.transaction.specs.Transaction.{pending_fits, rest_fits}
 use Rattle.card.specs.Record.{sound, with_tries}
 use Rattle.card.specs.Keys.{session_key_of, smi_key, smc_key, counter_key_of}
 use Rattle.shapes.specs.declared.command.Command.TheVariants.{SetPin}
-use Rattle.shapes.specs.declared.command.Listed.TheVariants.{One}
 use Rattle.message.specs.Code.{given, code_fits}
 use Rattle.message.specs.Answers.{open_number, open_number_under, wrap_number_under}
 use Rattle.octets.specs.Lengths.{key_fits}
@@ -34,7 +34,7 @@ use Rattle.history.specs.Examples.{open_at, spoilt_at, Table}
 use Rattle.history.specs.Cases.{Cases, misread_at}
 
 pub p_table : Table
-unfolding le_octets be_octets same digits pairs X sixteen Y pin_fits nibbles fields pin_block well_formed pin_of block_fits write_pin read_block read_pin width widths dataFields row place counter_place issuer_place kind_place kind_bits marked card_data largest largest_short length_field field_says length_of_under place_of_under tag_fits code_head body_under body_size_under tag_of data_of_under body_of_under code_in_under shape_under answer_under shaped_under pending_fits rest_fits sound judged_under due_under after_under
+unfolding le_octets be_octets same digits pairs X sixteen Y pin_fits nibbles fields pin_block well_formed pin_of block_fits write_pin read_block read_pin width widths dataFields row place counter_place issuer_place kind_place kind_bits marked card_data largest largest_short length_field field_says length_of_under place_of_under tag_fits code_head body_under body_size_under tag_of data_of_under body_of_under code_in_under shape_under shaped_under pending_fits rest_fits sound judged_under due_under after_under
 p_table =
     record {
       P1 = refl;
@@ -64,10 +64,10 @@ differs_11 : (arpc csu : List ℕ) → length arpc ≡ 8 → length csu ≡ 4 �
 unfolding same digits pin_fits pending_fits rest_fits sound judged_under due_under after_under
 differs_11 arpc csu a b c = rw (eq-eqb _ _ a, eq-eqb _ _ b, c)
 
-unread_9 : (h m : List ℕ) → length h ≡ 4 → shape m ≡ true → command_of h (tag_of m) (length_of m) ≡ One SetPin → code_fits (smi_key (open_at 0)) h m ≡ true
-    → ((decipher_pin (smc_key (open_at 0)) (data_of m)).code ≡ 0 → ⊥) → step (open_at 0) (Script h m) ≡ plain (spoilt_at 0 []) 9
+unread_9 : (h m : List ℕ) → length h ≡ 4 → shape m ≡ true → command_of h (tag_of m) (length_of m) ≡ Ok SetPin → code_fits (smi_key (open_at 0)) h m ≡ true
+    → is_err (decipher_pin (smc_key (open_at 0)) (data_of m)) ≡ true → step (open_at 0) (Script h m) ≡ plain (spoilt_at 0 []) 9
 unfolding same digits pin_fits pending_fits rest_fits sound judged_under judged_script due_under after_under
-unread_9 h m a b c d e = rw (eq-eqb _ _ a, b, c, d, ne_eqb _ _ e)
+unread_9 h m a b c d e = rw (eq-eqb _ _ a, b, c, d, e)
 
 check_spent : (b : List ℕ) → length b ≡ 8 → let r = with_tries (misread_at 65535) 0 in step r (CheckPin b) ≡ plain r 15
 unfolding same digits pin_fits pending_fits rest_fits sound judged_under due_under after_under
@@ -77,15 +77,15 @@ check_full : (b : List ℕ) → length b ≡ 8 → step (misread_at 65535) (Chec
 unfolding same digits pin_fits pending_fits rest_fits sound judged_under due_under after_under
 check_full b l = rw (eq-eqb _ _ l)
 
-check_misread : (b : List ℕ) → length b ≡ 8 → ((decipher_pin (smc_key (misread_at 0)) b).code ≡ 0 → ⊥) → step (misread_at 0) (CheckPin b) ≡ plain (misread_at 1) 9
+check_misread : (b : List ℕ) → length b ≡ 8 → is_err (decipher_pin (smc_key (misread_at 0)) b) ≡ true → step (misread_at 0) (CheckPin b) ≡ plain (misread_at 1) 9
 unfolding same digits pin_fits pending_fits rest_fits sound judged_under due_under after_under
-check_misread b l n = rw (eq-eqb _ _ l, ne_eqb _ _ n)
+check_misread b l n = rw (eq-eqb _ _ l, n)
 
-check_mistaken : (b : List ℕ) → length b ≡ 8 → decipher_pin (smc_key (misread_at 0)) b ≡ found (1 ∷ 2 ∷ 3 ∷ 5 ∷ []) → step (misread_at 0) (CheckPin b) ≡ plain (with_tries (misread_at 0) 2) 14
+check_mistaken : (b : List ℕ) → length b ≡ 8 → decipher_pin (smc_key (misread_at 0)) b ≡ Ok (found (1 ∷ 2 ∷ 3 ∷ 5 ∷ [])) → step (misread_at 0) (CheckPin b) ≡ plain (with_tries (misread_at 0) 2) 14
 unfolding same digits pin_fits pending_fits rest_fits sound judged_under due_under after_under found
 check_mistaken b l e = rw (eq-eqb _ _ l, e)
 
-check_recognised : (b : List ℕ) → length b ≡ 8 → decipher_pin (smc_key (with_tries (misread_at 0) 1)) b ≡ found (1 ∷ 2 ∷ 3 ∷ 4 ∷ [])
+check_recognised : (b : List ℕ) → length b ≡ 8 → decipher_pin (smc_key (with_tries (misread_at 0) 1)) b ≡ Ok (found (1 ∷ 2 ∷ 3 ∷ 4 ∷ []))
     → step (with_tries (misread_at 0) 1) (CheckPin b) ≡ plain (misread_at 0) 0
 unfolding same digits pin_fits pending_fits rest_fits sound judged_under due_under after_under found
 check_recognised b l e = rw (eq-eqb _ _ l, e)
@@ -95,7 +95,7 @@ unfolding open_number_under given key_fits
 opens_differing m s c = rw (s, c)
 
 pub cases : Cases
-unfolding open_number_under wrap_number_under size_of_under given key_fits same le_octets be_octets be le length_field field_says largest largest_short length_of_under place_of_under tag_fits code_head body_under body_size_under tag_of data_of_under body_of_under code_in_under shape_under header_of tag_for length_for is_for listed first_of digits nibbles well_formed pin_of pin_fits read_block found no_pin counters_of counter_block kind_number session_seed session_key_of counter_key_of pending_fits rest_fits sound judged_script judged_under arpc_for cryptogram_for counters_for due_under after_under personalised
+unfolding open_number_under wrap_number_under size_of_under given key_fits same le_octets be_octets be le length_field field_says largest largest_short length_of_under place_of_under tag_fits code_head body_under body_size_under tag_of data_of_under body_of_under code_in_under shape_under header_of tag_for length_for is_for listed first_of digits nibbles well_formed pin_of pin_fits read_block found counters_of counter_block kind_number session_seed session_key_of counter_key_of pending_fits rest_fits sound judged_script judged_under arpc_for cryptogram_for counters_for due_under after_under personalised
 cases =
     record {
       open_6_1 = refl;

@@ -16,7 +16,7 @@ use Rattle.shapes.proofs.CommandLaws.{length-is}
 use Rattle.gost.specs.Gost.{subkeys}
 use Rattle.pin.specs.PinBlock.{pin_fits, nibbles, well_formed}
 use Rattle.pin.specs.CounterBlock.{counters_of}
-use Rattle.pin.specs.Answers.{found, no_pin, read_block}
+use Rattle.pin.specs.Answers.{found, read_block}
 use Rattle.cryptogram.specs.declared.Kind.TheVariants.{Arqc}
 use Rattle.cryptogram.specs.Cryptogram.{twice}
 use Rattle.transaction.specs.declared.Transaction.{Transaction}
@@ -56,7 +56,7 @@ first_loading =
     }
 
 is_fresh : Fresh first_loading
-unfolding personalised read_block well_formed nibbles pin_fits digits found no_pin
+unfolding personalised read_block well_formed nibbles pin_fits digits found
 is_fresh = refl
 
 abbrev pub first_card : Card

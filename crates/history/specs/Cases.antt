@@ -1,14 +1,14 @@
 -- What the table of the calls says once, in a computed case each: a slip there, made in the code alike, is refused here. Assumes nothing.
-use Rattle.std.specs.Prelude.{ℕ, ◌≡◌, true, false, List, [], ◌∷◌, length, replicate}
+use Rattle.std.specs.Prelude.{ℕ, ◌≡◌, true, false, List, [], ◌∷◌, length, replicate, Result, Ok, is_err}
+use Rattle.answers.specs.declared.Refusal.{Refusal}
 use Rattle.octets.specs.Same.{same}
 use Rattle.shapes.specs.declared.command.Command.TheVariants.{SetPin}
-use Rattle.shapes.specs.declared.command.Listed.TheVariants.{One}
 use Rattle.shapes.specs.Shape.{length_of, tag_of, data_of, shape}
 use Rattle.shapes.specs.Command.{command_of}
 use Rattle.gost.specs.Gost.{subkeys, encipher}
 use Rattle.hash.specs.Hash.{hash256}
 use Rattle.derive.specs.Derivation.{derived, card_label}
-use Rattle.pin.specs.declared.PinRead.{PinRead}
+use Rattle.pin.specs.declared.Pin.{Pin}
 use Rattle.pin.specs.Answers.{decipher_pin, found}
 use Rattle.message.specs.Code.{code_fits}
 use Rattle.message.specs.Answers.{open_number, wrap_number}
@@ -19,7 +19,7 @@ use Rattle.card.specs.declared.Card.{Card}
 use Rattle.card.specs.declared.Reply.{Reply}
 use Rattle.card.specs.Record.{card_of, counters_at, with_transaction, with_tries, with_counters}
 use Rattle.card.specs.Keys.{smi_key, smc_key}
-use Rattle.card.specs.Calls.{Call, Open, IssuerAnswer, Script, Close, Withdraw, Counters, arpc_for, gives, new_pin, new_mark, orders, plain, step, CheckPin}
+use Rattle.card.specs.Calls.{Call, Open, IssuerAnswer, Script, Close, Withdraw, Counters, arpc_for, gives, new_pin, new_mark, orders, plain, step, CheckPin, pin_or_none}
 use Rattle.card.specs.Personalise.{blank, personalised}
 use Rattle.history.specs.Examples.{card_at, idle, open_at, spoilt_at, both, message_of}
 
@@ -70,17 +70,17 @@ pub record Cases : Type 0 where
   pub check_1_15 : let r = with_tries (open_at 0) 0 in step r (CheckPin []) ≡ plain r 1
   pub check_15_7 : (b : List ℕ) → length b ≡ 8 → let r = with_tries (misread_at 65535) 0 in step r (CheckPin b) ≡ plain r 15
   pub check_7_9 : (b : List ℕ) → length b ≡ 8 → step (misread_at 65535) (CheckPin b) ≡ plain (misread_at 65535) 7
-  pub check_9 : (b : List ℕ) → length b ≡ 8 → ((decipher_pin (smc_key (misread_at 0)) b).code ≡ 0 → ⊥) → step (misread_at 0) (CheckPin b) ≡ plain (misread_at 1) 9
-  pub check_14 : (b : List ℕ) → length b ≡ 8 → decipher_pin (smc_key (misread_at 0)) b ≡ found (1 ∷ 2 ∷ 3 ∷ 5 ∷ [])
+  pub check_9 : (b : List ℕ) → length b ≡ 8 → is_err (decipher_pin (smc_key (misread_at 0)) b) ≡ true → step (misread_at 0) (CheckPin b) ≡ plain (misread_at 1) 9
+  pub check_14 : (b : List ℕ) → length b ≡ 8 → decipher_pin (smc_key (misread_at 0)) b ≡ Ok (found (1 ∷ 2 ∷ 3 ∷ 5 ∷ []))
       → step (misread_at 0) (CheckPin b) ≡ plain (with_tries (misread_at 0) 2) 14
-  pub check_0 : (b : List ℕ) → length b ≡ 8 → decipher_pin (smc_key (with_tries (misread_at 0) 1)) b ≡ found (1 ∷ 2 ∷ 3 ∷ 4 ∷ [])
+  pub check_0 : (b : List ℕ) → length b ≡ 8 → decipher_pin (smc_key (with_tries (misread_at 0) 1)) b ≡ Ok (found (1 ∷ 2 ∷ 3 ∷ 4 ∷ []))
       → step (with_tries (misread_at 0) 1) (CheckPin b) ≡ plain (misread_at 0) 0
   -- "6 .. other calls but Withdraw with none open; issuer answer after an AAC", "9 .. PIN block format wrong", "11 .. ARPC differs"
   pub close_6 : step idle Close ≡ plain idle 6
   pub counters_6 : step idle Counters ≡ plain idle 6
   pub answer_aac : let r = with_transaction idle (just_opened true (replicate 8 0)) in step r (IssuerAnswer (replicate 8 0) (replicate 4 0)) ≡ plain r 6
-  pub script_9 : (h m : List ℕ) → length h ≡ 4 → shape m ≡ true → command_of h (tag_of m) (length_of m) ≡ One SetPin → code_fits (smi_key (open_at 0)) h m ≡ true
-      → ((decipher_pin (smc_key (open_at 0)) (data_of m)).code ≡ 0 → ⊥) → step (open_at 0) (Script h m) ≡ plain (spoilt_at 0 []) 9
+  pub script_9 : (h m : List ℕ) → length h ≡ 4 → shape m ≡ true → command_of h (tag_of m) (length_of m) ≡ Ok SetPin → code_fits (smi_key (open_at 0)) h m ≡ true
+      → is_err (decipher_pin (smc_key (open_at 0)) (data_of m)) ≡ true → step (open_at 0) (Script h m) ≡ plain (spoilt_at 0 []) 9
   pub answer_11 : (arpc csu : List ℕ) → length arpc ≡ 8 → length csu ≡ 4 → same arpc (arpc_for (open_at 0) csu) ≡ false → step (open_at 0) (IssuerAnswer arpc csu) ≡ plain (open_at 0) 11
   -- "Withdraw: drops what is pending and ends the transaction."
   pub withdrawn : step (spoilt_at 0 both) Withdraw ≡ plain idle 0
@@ -98,9 +98,9 @@ pub record Cases : Type 0 where
   pub loads_tries_9 : loaded_with 1 (replicate 8 0) 4 ≡ plain blank 1
   pub loads_9 : loaded_with 1 (replicate 8 0) 3 ≡ plain blank 9
   -- "24 .. sets the pending PIN; 1e and 18 .. set and clear the pending mark."
-  pub sets_pin : (x : PinRead) → orders (command_of (0x84 ∷ 0x24 ∷ 0x00 ∷ 0x02 ∷ []) 0x87 8) x ≡ new_pin x.pin x.count ∷ []
-  pub sets_mark : (x : PinRead) → orders (command_of (0x84 ∷ 0x1e ∷ 0x00 ∷ 0x00 ∷ []) 0x81 0) x ≡ new_mark true ∷ []
-  pub clears_mark : (x : PinRead) → orders (command_of (0x84 ∷ 0x18 ∷ 0x00 ∷ 0x00 ∷ []) 0x81 0) x ≡ new_mark false ∷ []
+  pub sets_pin : (x : Result Pin Refusal) → orders (command_of (0x84 ∷ 0x24 ∷ 0x00 ∷ 0x02 ∷ []) 0x87 8) x ≡ new_pin (pin_or_none x).digits (pin_or_none x).count ∷ []
+  pub sets_mark : (x : Result Pin Refusal) → orders (command_of (0x84 ∷ 0x1e ∷ 0x00 ∷ 0x00 ∷ []) 0x81 0) x ≡ new_mark true ∷ []
+  pub clears_mark : (x : Result Pin Refusal) → orders (command_of (0x84 ∷ 0x18 ∷ 0x00 ∷ 0x00 ∷ []) 0x81 0) x ≡ new_mark false ∷ []
   -- "the session key comes from the new counter. Kind is AAC if the kept block mark is set, else ARQC."; the answer's and the counters' key from the same
   pub arqc : (d : List ℕ) → gives idle (Open d) ≡ record { number = 0; kind = 0x80; bytes = cryptogram_of (subkeys 8 (key_at 0 0 2)) Arqc 2 d }
   pub aac : (d : List ℕ) → gives blocked (Open d) ≡ record { number = 0; kind = 0x00; bytes = cryptogram_of (subkeys 8 (key_at 1 1 5)) Aac 0x0105 d }

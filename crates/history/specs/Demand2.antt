@@ -1,13 +1,13 @@
 -- Demand 2: when a message is accepted. Its last sentence, the return laws, stands in the crate message. Assumes nothing.
-use Rattle.std.specs.Prelude.{ℕ, ◌^◌, ◌<◌, ◌≡◌, true, false, ◌↔◌, List, length}
+use Rattle.std.specs.Prelude.{ℕ, ◌^◌, ◌<◌, ◌≡◌, true, false, ◌↔◌, List, length, Result, Ok, is_ok, is_err}
+use Rattle.answers.specs.declared.Refusal.{Refusal}
 use Rattle.octets.specs.Numbers.{Octets, le_octets}
 use Rattle.shapes.specs.declared.command.Command.{Command}
 use Rattle.shapes.specs.declared.command.Command.TheVariants.{SetPin}
-use Rattle.shapes.specs.declared.command.Listed.TheVariants.{One}
 use Rattle.shapes.specs.Shape.{length_of, tag_of, data_of, shape as hasShape}
 use Rattle.shapes.specs.Command.{command_of}
 use Rattle.derive.specs.Derivation.{derived, card_label}
-use Rattle.pin.specs.declared.PinRead.{PinRead}
+use Rattle.pin.specs.declared.Pin.{Pin}
 use Rattle.pin.specs.Answers.{decipher_pin}
 use Rattle.message.specs.Code.{code_fits}
 use Rattle.cryptogram.specs.declared.Kind.{Kind}
@@ -25,10 +25,10 @@ pub record Accepts (r : Card) (h m : List ℕ) : Type 0 where
   pub header : length h ≡ 4
   pub shape : hasShape m ≡ true
   pub command : Command
-  pub instruction : command_of h (tag_of m) (length_of m) ≡ One command
+  pub instruction : command_of h (tag_of m) (length_of m) ≡ Ok command
   pub counter : r.counters.failures ≡ 65535 → ⊥
   pub code : code_fits (derived r.smi card_label r.transaction.cryptogram) h m ≡ true
-  pub format : command ≡ SetPin → (decipher_pin (derived r.smc card_label r.transaction.cryptogram) (data_of m)).code ≡ 0
+  pub format : command ≡ SetPin → is_ok (decipher_pin (derived r.smc card_label r.transaction.cryptogram) (data_of m)) ≡ true
 
 -- and it is refused with 8 exactly when all that is checked ahead of the code passes and the code does not, whatever PIN it carries
 pub record Differs (r : Card) (h m : List ℕ) : Type 0 where
@@ -37,7 +37,7 @@ pub record Differs (r : Card) (h m : List ℕ) : Type 0 where
   pub header : length h ≡ 4
   pub shape : hasShape m ≡ true
   pub command : Command
-  pub instruction : command_of h (tag_of m) (length_of m) ≡ One command
+  pub instruction : command_of h (tag_of m) (length_of m) ≡ Ok command
   pub counter : r.counters.failures ≡ 65535 → ⊥
   pub code : code_fits (derived r.smi card_label r.transaction.cryptogram) h m ≡ false
 
@@ -46,7 +46,7 @@ DiffersExactly = (r : Card) (h m : List ℕ) → ((step r (Script h m)).code ≡
 
 -- Wish 4: when a PIN check is answered what, on every record: "order 6, 1, 15, 7 when that counter is 65535, 9, 14". The block stands under the SMC key of
 -- the transaction's cryptogram, and the kept PIN is compared, its count and its digits
-abbrev pub block_read : Card → List ℕ → PinRead
+abbrev pub block_read : Card → List ℕ → Result Pin Refusal
 block_read r b = decipher_pin (derived r.smc card_label r.transaction.cryptogram) b
 
 pub record Presented (r : Card) (b : List ℕ) : Type 0 where
@@ -65,10 +65,10 @@ pub record Checked (r : Card) (b : List ℕ) : Type 0 where
   pub other_length : isSound r ≡ true → is_open r.transaction.phase ≡ true → (length b ≡ 8 → ⊥) → (step r (CheckPin b)).code ≡ 1
   pub no_tries : Presented r b → r.tries ≡ 0 → (step r (CheckPin b)).code ≡ 15
   pub full : Presented r b → (r.tries ≡ 0 → ⊥) → r.counters.decipherments ≡ 65535 → (step r (CheckPin b)).code ≡ 7
-  pub misread : Tried r b → ((block_read r b).code ≡ 0 → ⊥) → (step r (CheckPin b)).code ≡ 9
-  pub wrong_count : Tried r b → (block_read r b).code ≡ 0 → ((block_read r b).count ≡ r.count → ⊥) → (step r (CheckPin b)).code ≡ 14
-  pub wrong_digits : Tried r b → (block_read r b).code ≡ 0 → ((block_read r b).pin ≡ r.pin → ⊥) → (step r (CheckPin b)).code ≡ 14
-  pub right : Tried r b → (block_read r b).code ≡ 0 → (block_read r b).count ≡ r.count → (block_read r b).pin ≡ r.pin → (step r (CheckPin b)).code ≡ 0
+  pub misread : Tried r b → is_err (block_read r b) ≡ true → (step r (CheckPin b)).code ≡ 9
+  pub wrong_count : (p : Pin) → Tried r b → block_read r b ≡ Ok p → (p.count ≡ r.count → ⊥) → (step r (CheckPin b)).code ≡ 14
+  pub wrong_digits : (p : Pin) → Tried r b → block_read r b ≡ Ok p → (p.digits ≡ r.pin → ⊥) → (step r (CheckPin b)).code ≡ 14
+  pub right : (p : Pin) → Tried r b → block_read r b ≡ Ok p → p.count ≡ r.count → p.digits ≡ r.pin → (step r (CheckPin b)).code ≡ 0
 
 abbrev pub ChecksExactly : Type 0
 ChecksExactly = (r : Card) (b : List ℕ) → Checked r b

@@ -1,11 +1,10 @@
 -- 01, Examples on each side: "Marked P: to be shown true of the definitions as a single table under a single statement." Each row has the whole answer
 -- and, of a call, the whole record after it. Assumes nothing.
-use Rattle.std.specs.Prelude.{ℕ, ◌≡◌, true, false, List, [], ◌∷◌, ◌++◌, set, replicate}
-use Rattle.shapes.specs.declared.Opened.TheVariants.{Data, Refused}
-use Rattle.shapes.specs.Answers.{shaped}
+use Rattle.std.specs.Prelude.{ℕ, ◌≡◌, true, false, List, [], ◌∷◌, ◌++◌, set, replicate, Ok, Err}
+use Rattle.answers.specs.declared.Refusal.TheVariants.{ShapeWrong, PinFormat}
+use Rattle.shapes.specs.Answers.{found, shaped}
 use Rattle.keys.specs.CardNumber.{Y}
-use Rattle.answers.specs.Answers.{a_block}
-use Rattle.pin.specs.Answers.{no_pin, write_pin, read_pin}
+use Rattle.pin.specs.Answers.{write_pin, read_pin}
 use Rattle.cryptogram.specs.declared.Kind.TheVariants.{Arqc, Tc, Aac}
 use Rattle.cryptogram.specs.Data.{card_data}
 use Rattle.transaction.specs.Transaction.{none, spoilt, just_opened}
@@ -50,17 +49,17 @@ data_with byte = set (set (replicate 65 0) 32 1) 36 byte
 pub record Table : Type 0 where
   pub P1 : Y (1 ∷ 2 ∷ 3 ∷ 4 ∷ 5 ∷ 6 ∷ 7 ∷ 8 ∷ 9 ∷ 0 ∷ 1 ∷ 2 ∷ 3 ∷ 4 ∷ 5 ∷ 6 ∷ 7 ∷ 1 ∷ []) 95 ≡ 0x38 ∷ 0x4e ∷ 0x5a ∷ 0x0c ∷ 0x22 ∷ 0x38 ∷ 0x47 ∷ 0x5f ∷ []
   pub P2 : Y (1 ∷ 2 ∷ 3 ∷ 4 ∷ 5 ∷ 6 ∷ 7 ∷ 8 ∷ 9 ∷ 0 ∷ 1 ∷ 2 ∷ []) 0 ≡ 0x00 ∷ 0x0c ∷ 0x22 ∷ 0x38 ∷ 0x4e ∷ 0x5a ∷ 0x0c ∷ 0x00 ∷ []
-  pub P3 : write_pin (1 ∷ 2 ∷ 3 ∷ 4 ∷ 5 ∷ 6 ∷ 7 ∷ []) ≡ a_block (0x27 ∷ 0x12 ∷ 0x34 ∷ 0x56 ∷ 0x7f ∷ 0xff ∷ 0xff ∷ 0xff ∷ [])
-  pub P4 : write_pin (1 ∷ 2 ∷ 3 ∷ 4 ∷ []) ≡ a_block (0x24 ∷ 0x12 ∷ 0x34 ∷ 0xff ∷ 0xff ∷ 0xff ∷ 0xff ∷ 0xff ∷ [])
-  pub P5 : write_pin (1 ∷ 2 ∷ 3 ∷ 4 ∷ 5 ∷ 6 ∷ 7 ∷ 8 ∷ 9 ∷ 0 ∷ 1 ∷ 2 ∷ []) ≡ a_block (0x2c ∷ 0x12 ∷ 0x34 ∷ 0x56 ∷ 0x78 ∷ 0x90 ∷ 0x12 ∷ 0xff ∷ [])
-  pub P6 : read_pin (0x24 ∷ 0x12 ∷ 0x34 ∷ 0x5f ∷ 0xff ∷ 0xff ∷ 0xff ∷ 0xff ∷ []) ≡ no_pin 9
-  pub P7 : read_pin (0x23 ∷ 0x12 ∷ 0x3f ∷ 0xff ∷ 0xff ∷ 0xff ∷ 0xff ∷ 0xff ∷ []) ≡ no_pin 9
-  pub P8 : (a b c d : ℕ) → shaped (message_of (0x00 ∷ []) 0 a b c d) ≡ Data 0x81 2 0
-  pub P9 : (a b c d : ℕ) → shaped (0x81 ∷ 0x00 ∷ 0x8e ∷ 0x05 ∷ a ∷ b ∷ c ∷ d ∷ []) ≡ Refused 4
-  pub P10_80 : (s : List ℕ) → shaped (0x81 ∷ 0x80 ∷ s) ≡ Refused 4
-  pub P10_7f : (a b c d : ℕ) → shaped (message_of (0x7f ∷ []) 127 a b c d) ≡ Data 0x81 2 127
-  pub P10_81_80 : (a b c d : ℕ) → shaped (message_of (0x81 ∷ 0x80 ∷ []) 128 a b c d) ≡ Data 0x81 3 128
-  pub P10_81_7f : (s : List ℕ) → shaped (0x81 ∷ 0x81 ∷ 0x7f ∷ s) ≡ Refused 4
+  pub P3 : write_pin (1 ∷ 2 ∷ 3 ∷ 4 ∷ 5 ∷ 6 ∷ 7 ∷ []) ≡ Ok (0x27 ∷ 0x12 ∷ 0x34 ∷ 0x56 ∷ 0x7f ∷ 0xff ∷ 0xff ∷ 0xff ∷ [])
+  pub P4 : write_pin (1 ∷ 2 ∷ 3 ∷ 4 ∷ []) ≡ Ok (0x24 ∷ 0x12 ∷ 0x34 ∷ 0xff ∷ 0xff ∷ 0xff ∷ 0xff ∷ 0xff ∷ [])
+  pub P5 : write_pin (1 ∷ 2 ∷ 3 ∷ 4 ∷ 5 ∷ 6 ∷ 7 ∷ 8 ∷ 9 ∷ 0 ∷ 1 ∷ 2 ∷ []) ≡ Ok (0x2c ∷ 0x12 ∷ 0x34 ∷ 0x56 ∷ 0x78 ∷ 0x90 ∷ 0x12 ∷ 0xff ∷ [])
+  pub P6 : read_pin (0x24 ∷ 0x12 ∷ 0x34 ∷ 0x5f ∷ 0xff ∷ 0xff ∷ 0xff ∷ 0xff ∷ []) ≡ Err PinFormat
+  pub P7 : read_pin (0x23 ∷ 0x12 ∷ 0x3f ∷ 0xff ∷ 0xff ∷ 0xff ∷ 0xff ∷ 0xff ∷ []) ≡ Err PinFormat
+  pub P8 : (a b c d : ℕ) → shaped (message_of (0x00 ∷ []) 0 a b c d) ≡ Ok (found 0x81 2 0)
+  pub P9 : (a b c d : ℕ) → shaped (0x81 ∷ 0x00 ∷ 0x8e ∷ 0x05 ∷ a ∷ b ∷ c ∷ d ∷ []) ≡ Err ShapeWrong
+  pub P10_80 : (s : List ℕ) → shaped (0x81 ∷ 0x80 ∷ s) ≡ Err ShapeWrong
+  pub P10_7f : (a b c d : ℕ) → shaped (message_of (0x7f ∷ []) 127 a b c d) ≡ Ok (found 0x81 2 127)
+  pub P10_81_80 : (a b c d : ℕ) → shaped (message_of (0x81 ∷ 0x80 ∷ []) 128 a b c d) ≡ Ok (found 0x81 3 128)
+  pub P10_81_7f : (s : List ℕ) → shaped (0x81 ∷ 0x81 ∷ 0x7f ∷ s) ≡ Err ShapeWrong
   pub P11_arqc : card_data Arqc 1 (set (replicate 65 0) 36 0x25) ≡ data_with 0xa5
   pub P11_tc : card_data Tc 1 (set (replicate 65 0) 36 0x25) ≡ data_with 0x95
   pub P11_aac : card_data Aac 1 (set (replicate 65 0) 36 0x25) ≡ data_with 0x85

@@ -1,20 +1,21 @@
 -- The digits of X, the test of a card, the sixteen digits of the seed, and their pairs. Assumes nothing.
 use mathlib.Core.Path.{◌≡◌, sym, ap, ap₂, ◌∙◌, subst}
 use mathlib.Core.Logic.{⊎_elim}
-use mathlib.Core.Bool.{Bool, true, false, ◌&&◌, and-true, and-false, and-eq-true_iff}
-use mathlib.Core.List.{List, [], ◌∷◌, ◌++◌, append-nil}
+use mathlib.Core.Bool.{true, false, ◌&&◌, and-false, and-eq-true_iff}
+use mathlib.Core.List.{List, [], ◌∷◌, ◌++◌, append_assoc}
 use Prim.Native.Nat.{ℕ, zero, suc, ◌+◌, ◌-◌, ◌*◌, ◌/◌, ◌%◌, ◌≤◌, ◌<◌}
 use native.Mathlib.Nat.{mul-le-mul}
 use native.Mathlib.Omega.{arith}
-use borrow.Author.Tests.{leb-true, le-leb, lt-leb}
+use borrow.Author.Tests.{leb-true, lt-leb}
 use lib.Dec.{leb}
-use lib.ListN.{length, get_or, set, take, drop, length-append, length-drop, length-replicate, drop_of_length-le, get_or-append}
-use lib.Seq.{get_or-append-add, paste, take_all}
+use lib.ListN.{length, get_or, set, take, drop, length-append, length-drop, length-replicate, get_or-append}
+use lib.Seq.{get_or-append-add, drop-drop}
+use borrow.Rule.Slice.PartMut.{put_mid}
+use Rattle.std.proofs.lemmas.List.{drop-append-le, set-append_right}
 use Rattle.octets.specs.Digits.{digits, pairs}
 use Rattle.octets.proofs.DigitLaws.{digits_at, digits_all}
-use Rattle.octets.proofs.Parts.{zeros, take-zeros, Below, below_append, below_drop, below_zeros}
+use Rattle.octets.proofs.Parts.{zeros, take-zeros, drop-zeros, Below, below_append, below_drop, below_zeros}
 use Rattle.blocks.proofs.Laws.{lt_or_ge}
-use Rattle.hash.proofs.BlockLaws.{put_turn}
 use Rattle.keys.specs.CardNumber.{card_fits, X, sixteen}
 
 -- ---- X
@@ -59,21 +60,9 @@ fits pan q t =
 
 -- the test of a card, test by test
 module _ (pan : List ℕ) (q : ℕ) where
-  pub too_short : length pan < 12 → false ≡ card_fits pan q
-  unfolding card_fits
-  too_short h = simp (lt-leb _ _ h)
-
   pub too_long : 19 < length pan → false ≡ card_fits pan q
   unfolding card_fits
   too_long h = simp (lt-leb _ _ h, and-false)
-
-  pub too_high : 99 < q → false ≡ card_fits pan q
-  unfolding card_fits
-  too_high h = simp (lt-leb _ _ h, and-false)
-
-  pub card_fits_lem : 12 ≤ length pan → length pan ≤ 19 → q ≤ 99 → (t : Bool) → t ≡ digits 0 (length pan) pan → t ≡ card_fits pan q
-  unfolding card_fits
-  card_fits_lem l m h t e = e ∙ sym (simp (le-leb _ _ l, le-leb _ _ m, le-leb _ _ h, and-true))
 
 pub X-small : (pan : List ℕ) (q : ℕ) → Fits pan q → Below 10 (X pan q)
 X-small pan q f i =
@@ -92,21 +81,28 @@ module _ (x : List ℕ) where
   unfolding sixteen
   sixteen_small h = below_append 10 (zeros (16 - length x)) (drop (length x - 16) x) (below_zeros 10 (16 - length x) (omega arith)) (below_drop 10 (length x - 16) x h)
 
-  -- a turn of the loop that puts the last digits of X behind the zeros, and when all are put
-  pub sixteen_turn : (s : List ℕ) (k d ahead from i : ℕ) → s ≡ paste (zeros 16) ahead (drop from x) i → k ≡ ahead + i → d ≡ get_or x (from + i) 0
-      → ahead + i < 16 → from + i < length x → set s k d ≡ paste (zeros 16) ahead (drop from x) (i + 1)
-  sixteen_turn s k d ahead from i e f g l m =
-      ap (λ (t : List ℕ). set t k d) e
-      ∙ ap₂ (λ (j v : ℕ). set (paste (zeros 16) ahead (drop from x) i) j v) f g
-      ∙ put_turn (zeros 16) x ahead from i l m
-
-  pub sixteen_made : (i : ℕ) → 16 - length x + i ≡ 16 → paste (zeros 16) (16 - length x) (drop (length x - 16) x) i ≡ sixteen x
-  unfolding sixteen
-  sixteen_made i h =
-      let d = drop (length x - 16) x in
-      let t : take i d ≡ d = take_all i d (omega (arith, length-drop (length x - 16) x)) in
-      let u : drop (16 - length x + i) (zeros 16) ≡ [] = drop_of_length-le (zeros 16) {i = 16 - length x + i} (omega arith) in
-      simp (take-zeros (16 - length x) 16 (omega arith), t, u, append-nil)
+-- the last fourteen digits of a card number, behind zeros, and the two of the sequence number
+pub sixteen_laid : (pan : List ℕ) (q k : ℕ) (s : List ℕ) → k ≡ length pan - 14 → s ≡ drop k pan → (a b : ℕ) → a ≡ 14 - length s → b ≡ length s
+    → set (set (put_mid a b (zeros 16) s) 14 (q / 10)) 15 (q % 10) ≡ sixteen (X pan q)
+unfolding sixteen X
+sixteen_laid pan q k s e f a b ea eb =
+    let x : List ℕ = q / 10 ∷ q % 10 ∷ [] in
+    let n : length (pan ++ x) ≡ length pan + 2 = length-append pan x in
+    let m : length s ≡ length pan - k = ap length f ∙ length-drop k pan in
+    let z : take a (zeros 16) ≡ zeros a = take-zeros a 16 (omega arith) in
+    let two : 16 - (a + b) ≡ 2 = omega arith in
+    let before : a ≡ 16 - length (pan ++ x) = omega arith in
+    let from : k ≡ length (pan ++ x) - 16 = omega arith in
+    let y : drop b (drop a (zeros 16)) ≡ zeros 2 = drop-drop b a (zeros 16) ∙ drop-zeros (a + b) 16 ∙ ap zeros two in
+    let w : put_mid a b (zeros 16) s ≡ (zeros a ++ s) ++ 0 ∷ 0 ∷ [] =
+    ap₂ (λ (u v : List ℕ). u ++ (s ++ v)) z y ∙ sym (append_assoc (zeros a) s (0 ∷ 0 ∷ [])) in
+    let l : length (zeros a ++ s) ≡ 14 = simp (length-append, length-replicate) (omega arith) in
+    ap (λ (u : List ℕ). set (set u 14 (q / 10)) 15 (q % 10)) w
+    ∙ ap (λ (u : List ℕ). set u 15 (q % 10)) (set-append_right (zeros a ++ s) (0 ∷ 0 ∷ []) 14 14 (q / 10) l (omega arith))
+    ∙ set-append_right (zeros a ++ s) (q / 10 ∷ 0 ∷ []) 14 15 (q % 10) l (omega arith)
+    ∙ append_assoc (zeros a) s x
+    ∙ ap₂ (λ (u v : List ℕ). u ++ v) (ap zeros before)
+    (ap (λ (u : List ℕ). u ++ x) f ∙ sym (drop-append-le k pan x (omega arith)) ∙ ap (λ (i : ℕ). drop i (pan ++ x)) from)
 
 pub sixteen_digits : (pan : List ℕ) (q : ℕ) → Fits pan q → digits 0 16 (sixteen (X pan q)) ≡ true
 sixteen_digits pan q f =

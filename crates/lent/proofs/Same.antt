@@ -7,19 +7,21 @@ use mathlib.Core.List.{List, [], ◌∷◌}
 use lib.Dec.{eqb}
 use lib.ListN.{length, get_or, drop, replicate, length-drop, length-replicate}
 use lib.Seq.{length-take-le}
-use borrow.Author.Tests.{eqb-true, eqb-false, le-leb}
+use borrow.Author.Tests.{eq-eqb, eqb-true, eqb-false}
 use Rattle.octets.specs.Numbers.{Octets}
 use Rattle.octets.proofs.NumberLaws.{be_lt}
 use Rattle.octets.proofs.Parts.{zeros, zeros_at, below_zeros}
+use Rattle.std.specs.Prelude.{Result, Ok, Err}
+use Rattle.answers.specs.declared.Refusal.{Refusal}
+use Rattle.answers.specs.Answers.{number_told}
 use Rattle.message.specs.Answers.{Written}
 use Rattle.table.specs.declared.CardId.{CardId}
 use Rattle.table.specs.declared.Entry.{Entry}
 use Rattle.table.specs.Table.{same_id, names, counter_of, readings, held_count}
 use Rattle.desk.specs.declared.Desk.{Desk}
-use Rattle.desk.specs.declared.Told.{Told}
 use Rattle.desk.specs.declared.Checked.{Checked}
-use Rattle.desk.specs.Desk.{id_of, adds, forgets}
-use Rattle.desk.specs.Check.{checks}
+use Rattle.desk.specs.Desk.{id_of, adds, forgets, desk_after}
+use Rattle.desk.specs.Check.{checks, after_check}
 use Rattle.desk.specs.Wrap.{wraps}
 use Rattle.desks.specs.Run.{Issuer, DeskCall, Add, Forget, Check, Wrap, DeskAnswer, reached, answered, our_answer, our_next, our_desk}
 use Rattle.desks.specs.Book.{Holding, holds, gives, leaves, book, due_after}
@@ -28,12 +30,12 @@ use Rattle.desks.proofs.Kept.{Kept}
 use Rattle.desks.proofs.Steps.{desk_of, step_of}
 use Rattle.desks.proofs.Meets.{ours_as_demanded}
 use Rattle.stored.specs.Form.{entry_at, entries_from, table_in, table_out}
-use Rattle.stored.specs.Lent.{lent_desk, no_key, table_fits, number_if, table_after, check_fits, wrap_fits, wraps_in}
+use Rattle.stored.specs.Lent.{lent_desk, no_key, adds_in, forgets_in, table_after, check_fits, table_checked, slice_after, wrap_fits, wraps_in}
 use Rattle.stored.proofs.FormLaws.{length_entries}
-use Rattle.stored.proofs.LentLaws.{table_so, check_out, wrap_digits}
-use Rattle.lent.specs.Lent.{Sized, Host, digits_of, add_number, forget_number, check_number, host_answer, host_table, host, Keys, Octet, LentIsDesk}
+use Rattle.stored.proofs.LentLaws.{table_so, check_whole, wrap_whole, lent_so}
+use Rattle.lent.specs.Lent.{Sized, Host, digits_of, host_checks, host_answer, host_table, host, Keys, Octet, LentIsDesk}
 use Rattle.lent.proofs.Written.{AllSized, out_length, reads_written}
-use Rattle.lent.proofs.Turn.{Turn, empty_sized, two_octets, turn_adds, turn_forgets, turn_checks, adds_over, forgets_over, checks_over, arpc_none, wraps_over, over_told, over_checked}
+use Rattle.lent.proofs.Turn.{Turn, empty_sized, two_octets, turn_adds, turn_forgets, turn_checks, adds_over, forgets_over, checks_over, wraps_over, over_told, over_checked}
 
 abbrev host_of : Issuer → List ℕ → Host
 host_of k b = record { issuer = k; table = b }
@@ -66,88 +68,77 @@ module _ (k : Issuer) (b : List ℕ) (size : length b ≡ 1600) (sized : AllSize
   many = length_entries 64 0 b
 
   -- the bytes after a call
-  ready_after : (n : ℕ) (u : List Entry) → Turn t u n → Ready k (table_after n u b) (desk_of k u)
-  ready_after n u w = go (eqb n 0) w.same
-    where
-      go : (x : Bool) → (x ≡ false → u ≡ t) → Ready k (cond x (table_out u) b) (desk_of k u)
-      go true h =
-          let e : table_in (table_out u) ≡ u = reads_written u w.size w.sized in
-          record { size = out_length u w.sized ∙ omega (arith, w.size); sized = subst⁻¹ AllSized e w.sized; desk = ap (desk_of k) (sym e) }
-      go false h = record { size = size; sized = sized; desk = ap (desk_of k) (h refl) }
+  ready_written : (u : List Entry) → Turn u → Ready k (table_out u) (desk_of k u)
+  ready_written u w =
+      let e : table_in (table_out u) ≡ u = reads_written u w.size w.sized in
+      record { size = out_length u w.sized ∙ omega (arith, w.size); sized = subst⁻¹ AllSized e w.sized; desk = ap (desk_of k) (sym e) }
 
-  ready : (n n' : ℕ) (u u' : List Entry) (x : Desk) → n ≡ n' → u ≡ u' → x ≡ desk_of k u' → Turn t u' n' → Ready k (table_after n u b) x
-  ready n n' u u' x e f g w =
-      let r = ready_after n' u' w in
-      let h : table_after n u b ≡ table_after n' u' b = ap₂ (λ (i : ℕ) (v : List Entry). table_after i v b) e f in
-      record { size = ap length h ∙ r.size; sized = subst⁻¹ (λ (v : List ℕ). AllSized (table_in v)) h r.sized; desk = g ∙ r.desk ∙ ap (λ (v : List ℕ). desk_of k (table_in v)) (sym h) }
+  ready_kept : Ready k b d
+  ready_kept = record { size = size; sized = sized; desk = refl }
+
+  ready_told : (r : Result Desk Refusal) → Turn (desk_after (over_told d r) d).places → Ready k (table_after r b) (desk_after (over_told d r) d)
+  ready_told (Ok e) w = ready_written e.places w
+  ready_told (Err q) w = ready_kept
+
+  ready_checked : (r : Result Checked Refusal) → Turn (after_check (over_checked d r) d).desk.places → Ready k (table_checked r b) (after_check (over_checked d r) d).desk
+  ready_checked (Ok x) w = ready_written x.desk.places w
+  ready_checked (Err q) w = ready_kept
+
+  told_number : (r : Result Desk Refusal) → number_told r ≡ number_told (over_told d r)
+  told_number (Ok e) = refl
+  told_number (Err q) = refl
+
+  checked_number : (r : Result Checked Refusal) → number_told r ≡ number_told (over_checked d r)
+  checked_number (Ok x) = refl
+  checked_number (Err q) = refl
+
+  checked_arpc : (r : Result Checked Refusal) → slice_after r (replicate 8 0) ≡ (after_check (over_checked d r) d).arpc
+  checked_arpc (Ok x) = refl
+  checked_arpc (Err q) = refl
 
   -- adding and forgetting
   module _ (pan : List ℕ) (q : ℕ) where
-    abbrev bare : Desk
-    bare = lent_desk no_key no_key no_key false b
+    add_over : adds d pan q ≡ over_told d (adds_in b pan q)
+    add_over =
+        adds_over t pan q k.ac k.smi k.smc k.packed no_key no_key no_key false ∙ ap (over_told d) (sym (lent_so _ _ _ (table_so b size) refl))
 
-    add_over : adds d pan q ≡ over_told d (adds bare pan q)
-    add_over = adds_over t pan q k.ac k.smi k.smc k.packed no_key no_key no_key false
+    forget_over : forgets d pan q ≡ over_told d (forgets_in b pan q)
+    forget_over =
+        forgets_over t pan q k.ac k.smi k.smc k.packed no_key no_key no_key false ∙ ap (over_told d) (sym (lent_so _ _ _ (table_so b size) refl))
 
-    forget_over : forgets d pan q ≡ over_told d (forgets bare pan q)
-    forget_over = forgets_over t pan q k.ac k.smi k.smc k.packed no_key no_key no_key false
-
-    by_table : (n m : ℕ) → n ≡ m → number_if (table_fits b) n ≡ m
-    by_table n m e = ap (λ (x : Bool). cond x n 1) (table_so b size) ∙ e
-
-    add_number_lem : add_number b pan q ≡ (adds d pan q).code
-    add_number_lem = by_table _ _ (sym (ap (λ (r : Told). r.code) add_over))
-
-    forget_number_lem : forget_number b pan q ≡ (forgets d pan q).code
-    forget_number_lem = by_table _ _ (sym (ap (λ (r : Told). r.code) forget_over))
-
-    add_ready : Ready k (host_table (host_of k b) (Add pan q)) (adds d pan q).desk
+    add_ready : Ready k (host_table (host_of k b) (Add pan q)) (desk_after (adds d pan q) d)
     add_ready =
-        ready _ (adds d pan q).code _ (adds d pan q).desk.places _ add_number_lem (sym (ap (λ (r : Told). r.desk.places) add_over))
-        (ap (λ (r : Told). r.desk) add_over ∙ ap (λ (r : Told). desk_of k r.desk.places) (sym add_over))
-        (turn_adds t pan q k.ac k.smi k.smc k.packed many sized)
+        subst⁻¹ (λ (r : Result Desk Refusal). Ready k (table_after (adds_in b pan q) b) (desk_after r d)) add_over
+        (ready_told (adds_in b pan q) (subst (λ (r : Result Desk Refusal). Turn (desk_after r d).places) add_over (turn_adds t pan q k.ac k.smi k.smc k.packed many sized)))
 
-    forget_ready : Ready k (host_table (host_of k b) (Forget pan q)) (forgets d pan q).desk
+    forget_ready : Ready k (host_table (host_of k b) (Forget pan q)) (desk_after (forgets d pan q) d)
     forget_ready =
-        ready _ (forgets d pan q).code _ (forgets d pan q).desk.places _ forget_number_lem (sym (ap (λ (r : Told). r.desk.places) forget_over))
-        (ap (λ (r : Told). r.desk) forget_over ∙ ap (λ (r : Told). desk_of k r.desk.places) (sym forget_over))
-        (turn_forgets t pan q k.ac k.smi k.smc k.packed many sized)
+        subst⁻¹ (λ (r : Result Desk Refusal). Ready k (table_after (forgets_in b pan q) b) (desk_after r d)) forget_over
+        (ready_told (forgets_in b pan q) (subst (λ (r : Result Desk Refusal). Turn (desk_after r d).places) forget_over (turn_forgets t pan q k.ac k.smi k.smc k.packed many sized)))
 
     -- checking
     module _ (m arqc csu : List ℕ) (keys : Keys k) where
-      abbrev lent : Desk
-      lent = lent_desk k.ac no_key no_key (eqb (digits_of k) 1) b
+      abbrev checked : Result Checked Refusal
+      checked = host_checks (host_of k b) pan q m arqc csu
 
-      check_over : checks d pan q m arqc csu ≡ over_checked d (checks lent pan q m arqc csu)
+      check_fit : check_fits b k.ac (digits_of k) (replicate 8 0) ≡ true
+      check_fit = check_whole b k.ac (digits_of k) (replicate 8 0) size (eq-eqb _ _ keys.ac) (digits_fit k.packed) (length-replicate {A = ℕ} 8 0)
+
+      check_over : checks d pan q m arqc csu ≡ over_checked d checked
       check_over =
           checks_over t pan q k.ac k.smi k.smc k.packed m arqc csu no_key no_key
           ∙ ap (λ (p : Bool). over_checked d (checks (lent_desk k.ac no_key no_key p b) pan q m arqc csu)) (sym (packed_is k.packed))
+          ∙ ap (over_checked d) (sym (lent_so _ _ _ check_fit refl))
 
-      check_fit : check_fits b k.ac (digits_of k) (replicate 8 0) ≡ true
-      check_fit = sym (check_out b k.ac (digits_of k) (replicate 8 0) size keys.ac (digits_fit k.packed))
-
-      check_number_lem : check_number k b pan q m arqc csu ≡ (checks d pan q m arqc csu).code
-      check_number_lem = ap (λ (x : Bool). cond x (checks lent pan q m arqc csu).code 1) check_fit ∙ sym (ap (λ (r : Checked). r.code) check_over)
-
-      check_bytes : cond (eqb (check_number k b pan q m arqc csu) 0) (checks lent pan q m arqc csu).arpc (replicate 8 0) ≡ (checks d pan q m arqc csu).arpc
-      check_bytes =
-          ap₂ (λ (n : ℕ) (s : List ℕ). cond (eqb n 0) s (replicate 8 0)) check_number_lem (sym (ap (λ (r : Checked). r.arpc) check_over))
-          ∙ go (eqb (checks d pan q m arqc csu).code 0) (arpc_none t pan q k.ac k.smi k.smc k.packed m arqc csu)
-        where
-          go : (x : Bool) → (x ≡ false → (checks d pan q m arqc csu).arpc ≡ replicate 8 0) → cond x (checks d pan q m arqc csu).arpc (replicate 8 0) ≡ (checks d pan q m arqc csu).arpc
-          go true h = refl
-          go false h = sym (h refl)
-
-      check_ready : Octets m → Ready k (host_table (host_of k b) (Check pan q m arqc csu)) (checks d pan q m arqc csu).desk
+      check_ready : Octets m → Ready k (host_table (host_of k b) (Check pan q m arqc csu)) (after_check (checks d pan q m arqc csu) d).desk
       check_ready o =
-          ready _ (checks d pan q m arqc csu).code _ (checks d pan q m arqc csu).desk.places _ check_number_lem (sym (ap (λ (r : Checked). r.desk.places) check_over))
-          (ap (λ (r : Checked). r.desk) check_over ∙ ap (λ (r : Checked). desk_of k r.desk.places) (sym check_over))
-          (turn_checks t pan q k.ac k.smi k.smc k.packed m arqc csu many sized o)
+          subst⁻¹ (λ (r : Result Checked Refusal). Ready k (table_checked checked b) (after_check r d).desk) check_over
+          (ready_checked checked (subst (λ (r : Result Checked Refusal). Turn (after_check r d).desk.places) check_over (turn_checks t pan q k.ac k.smi k.smc k.packed m arqc csu many sized o)))
 
     -- wrapping
     module _ (i : ℕ) (g pin o : List ℕ) (place : ℕ) (keys : Keys k) where
       wrap_fit : wrap_fits b k.smi k.smc (digits_of k) ≡ true
-      wrap_fit = sym (wrap_digits b k.smi k.smc (digits_of k) size keys.smi keys.smc) ∙ le-leb _ _ (digits_fit k.packed)
+      wrap_fit = wrap_whole b k.smi k.smc (digits_of k) size (eq-eqb _ _ keys.smi) (eq-eqb _ _ keys.smc) (digits_fit k.packed)
 
       wrap_same : wraps_in b k.smi k.smc (digits_of k) pan q i g pin o place ≡ wraps d pan q i g pin o place
       unfolding wraps_in
@@ -156,9 +147,12 @@ module _ (k : Issuer) (b : List ℕ) (size : length b ≡ 1600) (sized : AllSize
           ∙ sym (wraps_over t pan q k.ac k.smi k.smc k.packed i g pin o place no_key)
 
   same_answers : Keys k → (c : DeskCall) → host_answer (host_of k b) c ≡ our_answer d c
-  same_answers keys (Add pan q) = same_answer (add_number_lem pan q) refl
-  same_answers keys (Forget pan q) = same_answer (forget_number_lem pan q) refl
-  same_answers keys (Check pan q m arqc csu) = same_answer (check_number_lem pan q m arqc csu keys) (check_bytes pan q m arqc csu keys)
+  same_answers keys (Add pan q) = same_answer (told_number (adds_in b pan q) ∙ sym (ap (number_told {T = Desk}) (add_over pan q))) refl
+  same_answers keys (Forget pan q) = same_answer (told_number (forgets_in b pan q) ∙ sym (ap (number_told {T = Desk}) (forget_over pan q))) refl
+  same_answers keys (Check pan q m arqc csu) =
+      let r = host_checks (host_of k b) pan q m arqc csu in
+      let e = check_over pan q m arqc csu keys in
+      same_answer (checked_number r ∙ sym (ap (number_told {T = Checked}) e)) (checked_arpc r ∙ sym (ap (λ (x : Result Checked Refusal). (after_check x d).arpc) e))
   same_answers keys (Wrap pan q i g pin o place) =
       let e = wrap_same pan q i g pin o place keys in
       same_answer (ap (λ (w : Written). w.code) e) (ap (λ (w : Written). w.buffer) e)

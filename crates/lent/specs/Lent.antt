@@ -1,12 +1,13 @@
 -- The desk of the library for C, which keeps its table as bytes, answers every call of every run as the desk by value does (Wish 7: "keeps up to 64 cards").
 -- Assumes nothing.
-use Rattle.std.specs.Prelude.{ℕ, ◌<◌, ◌≡◌, false, cond, List, [], eqb, length, get_or, replicate}
+use Rattle.std.specs.Prelude.{ℕ, ◌<◌, ◌≡◌, cond, List, [], length, get_or, replicate, Result}
+use Rattle.answers.specs.declared.Refusal.{Refusal}
+use Rattle.answers.specs.Answers.{number_told}
 use Rattle.table.specs.declared.Entry.{Entry}
 use Rattle.table.specs.Calls.{empty}
-use Rattle.desk.specs.Desk.{adds, forgets}
-use Rattle.desk.specs.Check.{checks}
+use Rattle.desk.specs.declared.Checked.{Checked}
 use Rattle.stored.specs.Form.{table_in, table_out}
-use Rattle.stored.specs.Lent.{lent_desk, no_key, table_fits, number_if, table_after, check_fits, wraps_in}
+use Rattle.stored.specs.Lent.{adds_in, forgets_in, checks_in, wraps_in, table_after, table_checked, slice_after}
 use Rattle.desks.specs.Run.{Issuer, DeskCall, Add, Forget, Check, Wrap, DeskAnswer, AnyDesk, answered, our_desk}
 
 -- an entry whose parts have the sizes of the bytes that are kept of it; what is written of such entries is read as the same
@@ -26,32 +27,24 @@ pub record Host : Type 0 where
 abbrev pub digits_of : Issuer → ℕ
 digits_of k = cond k.packed 1 0
 
--- numbers of adding, forgetting and checking by the bytes of the table, a slice of eight zeros lent for the ARPC
-abbrev pub add_number : List ℕ → List ℕ → ℕ → ℕ
-add_number b pan q = number_if (table_fits b) (adds (lent_desk no_key no_key no_key false b) pan q).code
-
-abbrev pub forget_number : List ℕ → List ℕ → ℕ → ℕ
-forget_number b pan q = number_if (table_fits b) (forgets (lent_desk no_key no_key no_key false b) pan q).code
-
-abbrev pub check_number : Issuer → List ℕ → List ℕ → ℕ → List ℕ → List ℕ → List ℕ → ℕ
-check_number k b pan q m arqc csu =
-    number_if (check_fits b k.ac (digits_of k) (replicate 8 0)) (checks (lent_desk k.ac no_key no_key (eqb (digits_of k) 1) b) pan q m arqc csu).code
+-- a checking by the bytes of the table, a slice of eight zeros lent for the ARPC
+abbrev pub host_checks : Host → List ℕ → ℕ → List ℕ → List ℕ → List ℕ → Result Checked Refusal
+host_checks h pan q m arqc csu = checks_in h.table h.issuer.ac (digits_of h.issuer) pan q m arqc csu (replicate 8 0)
 
 abbrev pub host_answer : Host → DeskCall → DeskAnswer
-host_answer h (Add pan q) = record { number = add_number h.table pan q; bytes = [] }
-host_answer h (Forget pan q) = record { number = forget_number h.table pan q; bytes = [] }
+host_answer h (Add pan q) = record { number = number_told (adds_in h.table pan q); bytes = [] }
+host_answer h (Forget pan q) = record { number = number_told (forgets_in h.table pan q); bytes = [] }
 host_answer h (Check pan q m arqc csu) =
-    let n = check_number h.issuer h.table pan q m arqc csu in
-    record { number = n; bytes = cond (eqb n 0) (checks (lent_desk h.issuer.ac no_key no_key (eqb (digits_of h.issuer) 1) h.table) pan q m arqc csu).arpc (replicate 8 0) }
+    let r = host_checks h pan q m arqc csu in
+    record { number = number_told r; bytes = slice_after r (replicate 8 0) }
 host_answer h (Wrap pan q i g pin b place) =
     let w = wraps_in h.table h.issuer.smi h.issuer.smc (digits_of h.issuer) pan q i g pin b place in
     record { number = w.code; bytes = w.buffer }
 
 abbrev pub host_table : Host → DeskCall → List ℕ
-host_table h (Add pan q) = table_after (add_number h.table pan q) (adds (lent_desk no_key no_key no_key false h.table) pan q).desk.places h.table
-host_table h (Forget pan q) = table_after (forget_number h.table pan q) (forgets (lent_desk no_key no_key no_key false h.table) pan q).desk.places h.table
-host_table h (Check pan q m arqc csu) =
-    table_after (check_number h.issuer h.table pan q m arqc csu) (checks (lent_desk h.issuer.ac no_key no_key (eqb (digits_of h.issuer) 1) h.table) pan q m arqc csu).desk.places h.table
+host_table h (Add pan q) = table_after (adds_in h.table pan q) h.table
+host_table h (Forget pan q) = table_after (forgets_in h.table pan q) h.table
+host_table h (Check pan q m arqc csu) = table_checked (host_checks h pan q m arqc csu) h.table
 host_table h (Wrap pan q i g pin b place) = h.table
 
 -- the host: from 1,600 zeros on, each call over the bytes that the one before left

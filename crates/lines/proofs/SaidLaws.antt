@@ -1,12 +1,16 @@
 -- Answers as lines of digits. Assumes nothing.
-use Prim.Native.Nat.{ℕ, ◌/◌, ◌%◌}
-use mathlib.Core.Path.{◌≡◌, sym, ap, ◌∙◌}
+use Prim.Native.Nat.{ℕ, suc, ◌+◌, ◌-◌, ◌*◌, ◌≤◌, ◌<◌}
+use native.Mathlib.Omega.{arith}
+use native.Mathlib.Numerals.{add-one}
+use mathlib.Core.Path.{◌≡◌, refl, sym, ap, ap₂, ◌∙◌}
 use mathlib.Core.Bool.{false}
-use mathlib.Core.List.{List, [], ◌∷◌, ◌++◌}
-use lib.ListN.{length, get_or, set, replicate}
+use mathlib.Core.List.{List, [], ◌∷◌, ◌++◌, append_assoc, append-nil}
+use lib.ListN.{length, get_or, take, drop, set, replicate, length-append}
+use lib.Seq.{take_at, drop_at, set_at, take-suc, take_all, length-take-le}
 use borrow.Author.Tests.{eq-eqb, ne_eqb}
-use Rattle.octets.specs.Digits.{hex_digit, hex_octet}
-use Rattle.octets.proofs.Parts.{elements, elements_all}
+use borrow.Rule.Slice.PartMut.{put_mid}
+use Rattle.octets.specs.Digits.{hex_octet}
+use Rattle.octets.proofs.Parts.{elements_all}
 use Rattle.card.specs.declared.Reply.{Reply}
 use Rattle.card.specs.Personalise.{personalised}
 use Rattle.lines.specs.declared.Held.{Held}
@@ -15,59 +19,70 @@ use Rattle.lines.specs.Lines.{hex_text, line_for}
 use Rattle.lines.specs.Answers.{holding, nothing, numbered, octets_for, replied}
 use Rattle.lines.specs.Said.{longest_answer, filled_to, said}
 
--- the number alone
-pub short_said : (h : Held) (n : ℕ) (c : List ℕ) → c ≡ hex_octet n
-    → ◌≡◌ {A = Said}
-    (record { held = h; count = 3; answer = set (set (set (replicate longest_answer 0) 0 (get_or c 0 0)) 1 (get_or c 1 0)) 2 10 })
-    (said (numbered h n))
-unfolding hex_octet hex_text line_for filled_to said
-short_said h n c e = rw e
+-- the digits of the first octets, and those of one more
+hex_append : (a b : List ℕ) → hex_text (a ++ b) ≡ hex_text a ++ hex_text b
+unfolding hex_text
+hex_append [] b = refl
+hex_append (x ∷ a) b = ap (λ (t : List ℕ). hex_octet x ++ t) (hex_append a b) ∙ sym (append_assoc (hex_octet x) (hex_text a) (hex_text b))
 
--- four octets
-pub four_made : (a b c d : ℕ) (x y z w : List ℕ) → x ≡ hex_octet a → y ≡ hex_octet b → z ≡ hex_octet c → w ≡ hex_octet d
-    → (get_or x 0 0 ∷ get_or x 1 0 ∷ get_or y 0 0 ∷ get_or y 1 0 ∷ get_or z 0 0 ∷ get_or z 1 0 ∷ get_or w 0 0 ∷ get_or w 1 0 ∷ []) ≡ hex_text (a ∷ b ∷ c ∷ d ∷ [])
-unfolding hex_octet hex_text
-four_made a b c d x y z w e f g i = rw (e, f, g, i)
+length-hex : (s : List ℕ) → length (hex_text s) ≡ 2 * length s
+unfolding hex_text hex_octet
+length-hex [] = refl
+length-hex (x ∷ s) = let e = length-hex s in omega arith
 
--- the digits of the eight bytes of an answer
-abbrev eight : List ℕ → List ℕ → List ℕ → List ℕ
-eight x y s =
-    get_or x 0 0 ∷ get_or x 1 0 ∷ get_or x 2 0 ∷ get_or x 3 0 ∷ get_or x 4 0 ∷ get_or x 5 0 ∷ get_or x 6 0 ∷ get_or x 7 0
-    ∷ get_or y 0 0 ∷ get_or y 1 0 ∷ get_or y 2 0 ∷ get_or y 3 0 ∷ get_or y 4 0 ∷ get_or y 5 0 ∷ get_or y 6 0 ∷ get_or y 7 0 ∷ s
+one_more : (s : List ℕ) (i : ℕ) → i < length s → hex_text (take (i + 1) s) ≡ hex_text (take i s) ++ hex_octet (get_or s i 0)
+unfolding hex_text
+one_more s i h =
+    ap (λ (j : ℕ). hex_text (take j s)) (add-one i)
+    ∙ ap hex_text (take-suc s i 0 h)
+    ∙ hex_append (take i s) (get_or s i 0 ∷ [])
+    ∙ ap (λ (t : List ℕ). hex_text (take i s) ++ t) (append-nil (hex_octet (get_or s i 0)))
 
-module _ (h : Held) (bytes x y : List ℕ) (l : length bytes ≡ 8)
-    (e : x ≡ hex_text (get_or bytes 0 0 ∷ get_or bytes 1 0 ∷ get_or bytes 2 0 ∷ get_or bytes 3 0 ∷ []))
-    (f : y ≡ hex_text (get_or bytes 4 0 ∷ get_or bytes 5 0 ∷ get_or bytes 6 0 ∷ get_or bytes 7 0 ∷ [])) where
-  eight_made : eight x y [] ≡ hex_text (elements bytes 0 0 8)
-  unfolding hex_octet hex_text
-  eight_made = rw (e, f)
+-- octets laid as digits one by one, and the line feed after them
+module _ (s : List ℕ) (few : length s ≤ 10) where
+  so_long : (i : ℕ) → i ≤ length s → length (hex_text (take i s)) ≡ 2 * i
+  so_long i h = length-hex (take i s) ∙ ap (λ (k : ℕ). 2 * k) (length-take-le i s h)
 
-  text : hex_text bytes ≡ eight x y []
-  text = ap hex_text (elements_all bytes 8 l) ∙ sym eight_made
+  pub told_turn : (xs ys : List ℕ) (i : ℕ) → i < length s → ys ≡ hex_octet (get_or s i 0) → xs ≡ hex_text (take i s) ++ replicate (longest_answer - 2 * i) 0
+      → put_mid (2 * i) (2 * i + 2 - 2 * i) xs ys ≡ hex_text (take (i + 1) s) ++ replicate (longest_answer - 2 * (i + 1)) 0
+  told_turn xs ys i h e f =
+      let p = hex_text (take i s) in
+      let l : length p ≡ 2 * i = so_long i (omega arith) in
+      let k : 2 * i + 2 - 2 * i ≡ 2 = omega arith in
+      let n : longest_answer - 2 * i ≡ suc (suc (19 - 2 * i)) = omega arith in
+      let m : longest_answer - 2 * (i + 1) ≡ 19 - 2 * i = omega arith in
+      let r : List ℕ = 0 ∷ 0 ∷ replicate (19 - 2 * i) 0 in
+      ap₂ (λ (j : ℕ) (x : List ℕ). put_mid (2 * i) j x ys) k (f ∙ ap (λ (z : ℕ). p ++ replicate z 0) n)
+      ∙ ap₂ (λ (a b : List ℕ). a ++ (ys ++ drop 2 b)) (take_at p r (2 * i) l) (drop_at p r (2 * i) l)
+      ∙ sym (append_assoc p ys (replicate (19 - 2 * i) 0))
+      ∙ ap₂ (λ (a : List ℕ) (z : ℕ). a ++ replicate z 0) (ap (λ (t : List ℕ). p ++ t) e ∙ sym (one_more s i h)) (sym m)
 
-  pub opened_said : (kind : ℕ) (k : List ℕ) → k ≡ hex_octet kind
-      → ◌≡◌ {A = Said}
-      (record { held = h; count = 21; answer = 48 ∷ 48 ∷ get_or k 0 0 ∷ get_or k 1 0 ∷ eight x y (10 ∷ []) })
-      (said (record { after = h; octets = 0 ∷ kind ∷ bytes }))
-  unfolding hex_digit hex_octet hex_text line_for filled_to said
-  opened_said kind k g =
-      sym
-      (ap
-      (λ (s : List ℕ). record { held = h; count = length (48 ∷ 48 ∷ hex_digit (kind / 16) ∷ hex_digit (kind % 16) ∷ (s ++ 10 ∷ [])); answer = filled_to longest_answer (48 ∷ 48 ∷ hex_digit (kind / 16) ∷ hex_digit (kind % 16) ∷ (s ++ 10 ∷ [])) })
-      text
-      ∙ ap
-      (λ (o : List ℕ). record { held = h; count = 21; answer = 48 ∷ 48 ∷ get_or o 0 0 ∷ get_or o 1 0 ∷ eight x y (10 ∷ []) })
-      (sym g))
+  pub told_end : (h : Held) (xs : List ℕ) (i : ℕ) → i ≡ length s → xs ≡ hex_text (take i s) ++ replicate (longest_answer - 2 * i) 0
+      → ◌≡◌ {A = Said} (record { held = h; count = 2 * length s + 1; answer = set xs (2 * length s) 10 }) (said (record { after = h; octets = s }))
+  unfolding said filled_to line_for
+  told_end h xs i e f =
+      let t = hex_text s in
+      let l : length t ≡ 2 * length s = length-hex s in
+      let n : longest_answer - 2 * i ≡ suc (20 - 2 * length s) = omega arith in
+      let c : length (t ++ 10 ∷ []) ≡ 2 * length s + 1 = length-append t (10 ∷ []) ∙ ap (λ (k : ℕ). k + 1) l in
+      let m : longest_answer - length (t ++ 10 ∷ []) ≡ 20 - 2 * length s = omega arith in
+      let w : xs ≡ t ++ 0 ∷ replicate (20 - 2 * length s) 0 =
+      f ∙ ap₂ (λ (a : List ℕ) (z : ℕ). hex_text a ++ replicate z 0) (take_all i s (omega arith)) n
+      in
+      let a : set xs (2 * length s) 10 ≡ (t ++ 10 ∷ []) ++ replicate (longest_answer - length (t ++ 10 ∷ [])) 0 =
+      ap (λ (x : List ℕ). set x (2 * length s) 10) w
+      ∙ set_at t 0 (replicate (20 - 2 * length s) 0) 10 (2 * length s) l
+      ∙ sym (append_assoc t (10 ∷ []) (replicate (20 - 2 * length s) 0))
+      ∙ ap (λ (z : ℕ). (t ++ 10 ∷ []) ++ replicate z 0) (sym m)
+      in
+      ap₂ (λ (k : ℕ) (x : List ℕ). record { held = h; count = k; answer = x }) (sym c) a
 
-  pub counted_said : ◌≡◌ {A = Said}
-      (record { held = h; count = 19; answer = 48 ∷ 48 ∷ eight x y (10 ∷ 0 ∷ 0 ∷ []) })
-      (said (record { after = h; octets = 0 ∷ bytes }))
-  unfolding hex_digit hex_octet hex_text line_for filled_to said
-  counted_said =
-      sym
-      (ap
-      (λ (s : List ℕ). record { held = h; count = length (48 ∷ 48 ∷ (s ++ 10 ∷ [])); answer = filled_to longest_answer (48 ∷ 48 ∷ (s ++ 10 ∷ [])) })
-      text)
+-- eight octets, one by one
+abbrev eight : List ℕ → List ℕ
+eight b = get_or b 0 0 ∷ get_or b 1 0 ∷ get_or b 2 0 ∷ get_or b 3 0 ∷ get_or b 4 0 ∷ get_or b 5 0 ∷ get_or b 6 0 ∷ get_or b 7 0 ∷ []
+
+all_eight : (b : List ℕ) → length b ≡ 8 → b ≡ eight b
+all_eight b l = elements_all b 8 l
 
 -- the answer to a frame that the card judged
 module _ (f : ℕ) (p : Reply) (h : Held) (eh : h ≡ holding p.card) (x : Said) where
@@ -75,13 +90,13 @@ module _ (f : ℕ) (p : Reply) (h : Held) (eh : h ≡ holding p.card) (x : Said)
   unfolding replied octets_for
   replied_refused n e = e ∙ rw (eh, ne_eqb _ _ n)
 
-  pub replied_opened : p.code ≡ 0 → f ≡ 1 → x ≡ said (record { after = h; octets = 0 ∷ p.kind ∷ p.bytes }) → x ≡ said (replied f p)
+  pub replied_opened : p.code ≡ 0 → length p.bytes ≡ 8 → f ≡ 1 → x ≡ said (record { after = h; octets = 0 ∷ p.kind ∷ eight p.bytes }) → x ≡ said (replied f p)
   unfolding replied octets_for
-  replied_opened n i e = e ∙ rw (eh, eq-eqb _ _ n, eq-eqb _ _ i)
+  replied_opened n l i e = e ∙ ap (λ (b : List ℕ). said (record { after = h; octets = 0 ∷ p.kind ∷ b })) (sym (all_eight p.bytes l)) ∙ rw (eh, eq-eqb _ _ n, eq-eqb _ _ i)
 
-  pub replied_counted : p.code ≡ 0 → (f ≡ 1 → ⊥) → f ≡ 6 → x ≡ said (record { after = h; octets = 0 ∷ p.bytes }) → x ≡ said (replied f p)
+  pub replied_counted : p.code ≡ 0 → length p.bytes ≡ 8 → f ≡ 6 → x ≡ said (record { after = h; octets = 0 ∷ eight p.bytes }) → x ≡ said (replied f p)
   unfolding replied octets_for
-  replied_counted n i j e = e ∙ rw (eh, eq-eqb _ _ n, ne_eqb _ _ i, eq-eqb _ _ j)
+  replied_counted n l i e = e ∙ ap (λ (b : List ℕ). said (record { after = h; octets = 0 ∷ b })) (sym (all_eight p.bytes l)) ∙ rw (eh, eq-eqb _ _ n, i)
 
   pub replied_plain : p.code ≡ 0 → (f ≡ 1 → ⊥) → (f ≡ 6 → ⊥) → x ≡ said (numbered h 0) → x ≡ said (replied f p)
   unfolding replied octets_for

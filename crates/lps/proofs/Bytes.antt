@@ -2,7 +2,9 @@
 use mathlib.Core.Path.{◌≡◌, refl, sym, ap, ◌∙◌, subst}
 use mathlib.Core.Bool.{Bool}
 use mathlib.Core.List.{List, [], ◌∷◌, ◌++◌}
-use Prim.Native.Nat.{ℕ, zero, suc, ◌+◌, ◌*◌, ◌/◌, ◌%◌, ◌<◌}
+use Prim.Native.Nat.{ℕ, zero, suc, ◌+◌, ◌*◌, ◌/◌, ◌%◌, ◌^◌, ◌<◌}
+use Rattle.std.proofs.Math.Nat.{div-div-eq-div-mul, pow-suc}
+use Rattle.std.specs.Int.{bytes_low_first}
 use native.Mathlib.Omega.{arith}
 use lib.Dec.{eqb, eqb→eq, lit<}
 use lib.ListN.{length, get_or, length-append, length-map, get_or-append}
@@ -68,3 +70,16 @@ permuted_at a i j e hi hj =
     ∙ ap (λ (k : ℕ). get_or (S (bytes a)) k 0) (tau_at (8 * i + j) (omega arith) ∙ t)
     ∙ get_d_map (λ b. get_or pi b 0) (bytes a) (j * 8 + i) (omega arith)
     ∙ ap (λ (b : ℕ). get_or pi b 0) (bytes_at a j i (omega arith) hi)
+
+-- what std calls the bytes of a number, lowest first
+low_first : (i k x : ℕ) → bytes_low_first (suc i) k x ≡ le_octets k (x / 256 ^ suc i)
+unfolding le_octets
+low_first i zero x = refl
+low_first i (suc k) x =
+    let e : x / 256 ^ suc (suc i) ≡ x / 256 ^ suc i / 256 = ap (λ (d : ℕ). x / d) (pow-suc 256 (suc i)) ∙ sym (div-div-eq-div-mul x (256 ^ suc i) 256) in
+    ap (λ (s : List ℕ). x / 256 ^ suc i % 256 ∷ s) (low_first (suc i) k x ∙ ap (le_octets k) e)
+
+pub bytes_low_first_lem : (n x : ℕ) → bytes_low_first 0 n x ≡ le_octets n x
+unfolding le_octets
+bytes_low_first_lem zero x = refl
+bytes_low_first_lem (suc n) x = ap (λ (s : List ℕ). x % 256 ∷ s) (low_first 0 n x)

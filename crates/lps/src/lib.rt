@@ -17,23 +17,7 @@ use tables::word;
 fn bytes_of(w: u64) -> [u8; 8]
     ensures { result ≡ le_octets 8 w }
 {
-    let w1 = w / 256;
-    let w2 = w1 / 256;
-    let w3 = w2 / 256;
-    let w4 = w3 / 256;
-    let w5 = w4 / 256;
-    let w6 = w5 / 256;
-    let w7 = w6 / 256;
-    [
-        (w % 256) as u8,
-        (w1 % 256) as u8,
-        (w2 % 256) as u8,
-        (w3 % 256) as u8,
-        (w4 % 256) as u8,
-        (w5 % 256) as u8,
-        (w6 % 256) as u8,
-        (w7 % 256) as u8,
-    ]
+    w.to_le_bytes()
 }
 
 // X[a](b), its first five words, with a zero after each: side by side, LLVM would put the words into registers by twos.
@@ -98,10 +82,8 @@ fn column(x: &mut [u64; 10], u: &[u8], v: &[u8], w: &[u8], k: usize) -> u64
     ensures { (result ≡ looked 0 0 (bytes_at x.old u.now v.now w.now k)) × Shifted x.old x.new }
 {
     let mut r = 0;
-    let mut j = 0;
-    while j < 8 {
-        r = r ^ word(256 * j + byte(x, u, v, w, k, j));
-        j += 1;
+    for j in 0..8 {
+        r ^= word(256 * j + byte(x, u, v, w, k, j));
     }
     r
 }
@@ -114,10 +96,8 @@ fn turn_from(s: &mut [u64; 8], b: &[u64; 8], upper: bool)
     let u = bytes_of(s[5] ^ b[5]);
     let v = bytes_of(s[6] ^ b[6]);
     let w = bytes_of(s[7] ^ b[7]);
-    let mut k = skip(&mut x, upper);
-    while k < 8 {
+    for k in skip(&mut x, upper)..8 {
         s[k] = column(&mut x, &u, &v, &w, k);
-        k += 1;
     }
 }
 

@@ -1,7 +1,8 @@
 -- What the card answers to an Open the desk accepts, and the card its ARPC. Assumes nothing.
 use Prim.Native.Nat.{ℕ, ◌+◌, ◌<◌}
 use native.Mathlib.Omega.{arith}
-use mathlib.Core.Path.{◌≡◌, sym, ap, ap₂, ◌∙◌}
+use mathlib.Core.Path.{◌≡◌, refl, sym, ap, ap₂, ◌∙◌}
+use Rattle.std.specs.Prelude.{Ok}
 use mathlib.Core.Bool.{Bool, true}
 use mathlib.Core.List.{List, [], ◌∷◌}
 use lib.ListN.{length, get_or, set, length-set}
@@ -29,13 +30,13 @@ use Rattle.history.proofs.Change.{change}
 use Rattle.history.proofs.Keeps.{keeps}
 use Rattle.history.proofs.Does.{opens, answers, cryptogram_given}
 use Rattle.table.specs.Table.{held}
-use Rattle.table.specs.Calls.{keeping}
+use Rattle.table.specs.Calls.{each, kept_entry, keeping}
 use Rattle.desk.specs.declared.Desk.{Desk}
 use Rattle.desk.specs.declared.Checked.{Checked}
 use Rattle.desk.specs.Desk.{id_of, with_places}
 use Rattle.desk.specs.Check.{counter_in, session_of, above_last, checks_right, checks_known, checks}
 use Rattle.meeting.specs.Meeting.{CanOpen, sent, OpenAccepted}
-use Rattle.meeting.proofs.Apart.{above, Own, own}
+use Rattle.meeting.proofs.Apart.{above_so, Own, own}
 
 -- the counter that was written into the data is read there
 counter_there : (m : List ℕ) (n : ℕ) → length m ≡ 65 → n < 65536 → counter_in (sets m 31 (be_octets 2 n)) ≡ n
@@ -67,10 +68,13 @@ module _ (d : Desk) (pan : List ℕ) (q : ℕ) (r : Card) (m csu : List ℕ) (c 
       ∙ ap (λ (b : Bool). cryptogram_of (subkeys 8 key) (kind_for b) (r.atc + 1) m) c.unblocked
 
   -- the desk's answer to an ARQC
+  abbrev its_answer : List ℕ → Checked
+  its_answer y = record { desk = with_places d (each (kept_entry (id_of pan q) (r.atc + 1)) d.places); arpc = arpc_of (subkeys 8 key) y csu }
+
   checked_as : card_fits pan q ≡ true → held (id_of pan q) d.places ≡ true → above_last d.places (id_of pan q) (r.atc + 1) ≡ true
       → (y : List ℕ) → y ≡ cryptogram_of (subkeys 8 key) Arqc (r.atc + 1) m
-      → checks d pan q (sent r m) y csu ≡ record { desk = with_places d (keeping (id_of pan q) (r.atc + 1) d.places).places; code = 0; arpc = arpc_of (subkeys 8 key) y csu }
-  unfolding checks checks_known checks_right session_of
+      → checks d pan q (sent r m) y csu ≡ Ok (its_answer y)
+  unfolding checks checks_known checks_right session_of keeping
   checked_as f h a y e =
       let n = r.atc + 1 in
       let small = c.counter in
@@ -92,9 +96,10 @@ module _ (d : Desk) (pan : List ℕ) (q : ℕ) (r : Card) (m csu : List ℕ) (c 
 pub open_accepted : OpenAccepted
 open_accepted d pan q r m csu c ks lm lc h a =
     let k = own d pan q r ks in
-    let e = checked_as d pan q r m csu c k lm lc ks.fits h (above d.places (id_of pan q) (r.atc + 1) a) (step r (Open m)).bytes (arqc_is d pan q r m csu c k lm lc) in
+    let e = checked_as d pan q r m csu c k lm lc ks.fits h (above_so d.places (id_of pan q) (r.atc + 1) a) (step r (Open m)).bytes (arqc_is d pan q r m csu c k lm lc) in
     record {
       opened = ap (λ (o : Reply). o.code) (opened_as d pan q r m csu c k lm lc);
-      checked = ap (λ (x : Checked). x.code) e;
-      answered = answered_so d pan q r m csu c k lm lc _ (ap (λ (x : Checked). x.arpc) e);
+      answer = its_answer d pan q r m csu c k lm lc (step r (Open m)).bytes;
+      checked = e;
+      answered = answered_so d pan q r m csu c k lm lc _ refl;
     }

@@ -9,7 +9,8 @@ use lib.ListN.{length, take, drop, replicate, length-append}
 use lib.Seq.{take_at, take-take}
 use borrow.Author.Tests.{eqb-false, leb-true}
 use Rattle.answers.specs.declared.Refusal.TheVariants.{Input, CardNumber, NoRoom, PinDigits, UnknownCard}
-use Rattle.answers.specs.declared.BlockAnswer.{BlockAnswer}
+use Rattle.std.specs.Prelude.{Result, Ok, Err, is_ok}
+use Rattle.answers.specs.declared.Refusal.{Refusal}
 use Rattle.octets.specs.Laid.{laid}
 use Rattle.octets.proofs.LaidLaws.{length-laid, laid_there, laid_laid}
 use Rattle.gost.specs.Gost.{encipher}
@@ -17,15 +18,13 @@ use Rattle.gost.proofs.Inverse.{length-encipher}
 use Rattle.derive.specs.Derivation.{derived, card_label}
 use Rattle.derive.proofs.Laws.{length-derived}
 use Rattle.keys.specs.CardNumber.{card_fits}
-use Rattle.pin.specs.declared.PinRead.{PinRead}
+use Rattle.pin.specs.declared.Pin.{Pin}
 use Rattle.pin.specs.PinBlock.{pin_fits, pin_block}
 use Rattle.pin.specs.Answers.{decipher_pin}
 use Rattle.pin.proofs.AnswerLaws.{encipher-is}
 use Rattle.pin.proofs.Inverse.{found_is, deciphered-enciphered}
 use Rattle.shapes.specs.declared.command.Command.{Command}
 use Rattle.shapes.specs.declared.command.Command.TheVariants.{SetPin, SetMark, ClearMark}
-use Rattle.shapes.specs.declared.command.Listed.{Listed}
-use Rattle.shapes.specs.declared.command.Listed.TheVariants.{One, Unlisted}
 use Rattle.shapes.specs.Command.{header_of, tag_for, length_for}
 use Rattle.shapes.proofs.LengthLaws.{place_short}
 use Rattle.shapes.proofs.CommandLaws.{header_four, length-is, length-short}
@@ -74,7 +73,7 @@ module _ (d : Desk) (pan : List ℕ) (q : ℕ) (g pin b : List ℕ) (place : ℕ
   abbrev message_of : Command → List ℕ
   message_of c = message smi (header_of c) (tag_for c) (data_of c)
 
-  abbrev wrote : Listed → Written
+  abbrev wrote : Result Command Refusal → Written
   wrote l = wraps_listed d pan q l g pin b place
 
   -- what an answer of 0 says: w is the answer
@@ -83,7 +82,7 @@ module _ (d : Desk) (pan : List ℕ) (q : ℕ) (g pin b : List ℕ) (place : ℕ
     room : place + length (header_of c ++ message_of c) ≤ length b
     buffer : w.buffer ≡ laid b place (header_of c ++ message_of c)
 
-  wrote_so : (c : Command) → (wrote (One c)).code ≡ 0 → Wrote c (wrote (One c))
+  wrote_so : (c : Command) → (wrote (Ok c)).code ≡ 0 → Wrote c (wrote (Ok c))
   unfolding wraps_order wraps_command writes script
   wrote_so c = go (eqb (length g) 8) (card_fits pan q) (held (id_of pan q) d.places) (pin_good c pin) refl (leb (place + length (header_of c ++ message_of c)) (length b)) refl
     where
@@ -107,26 +106,25 @@ module _ (d : Desk) (pan : List ℕ) (q : ℕ) (g pin b : List ℕ) (place : ℕ
     key_is issuer x e = ap₂ (λ (y z : List ℕ). derived y card_label z) (sym e) (sym n.cryptogram)
 
     -- the PIN is read back
-    pin_read : pin_fits 0 (length pin) pin ≡ true → block_read r (encipher smc (pin_block pin)) ≡ record { code = 0; pin = pin ++ replicate (12 - length pin) 0; count = length pin }
+    pin_read : pin_fits 0 (length pin) pin ≡ true → block_read r (encipher smc (pin_block pin)) ≡ Ok (record { digits = pin ++ replicate (12 - length pin) 0; count = length pin })
     pin_read f =
         let key = derived r.smc card_label r.transaction.cryptogram in
         let e = encipher-is key pin (length-derived _ _ _) f in
         ap (λ (x : List ℕ). decipher_pin key (encipher x (pin_block pin))) (key_is d.smc r.smc k.smc)
-        ∙ ap (λ (a : BlockAnswer). decipher_pin key a.bytes) (sym e)
-        ∙ deciphered-enciphered key pin (ap (λ (a : BlockAnswer). a.code) e)
-        ∙ found_is pin
+        ∙ deciphered-enciphered key pin (encipher key (pin_block pin)) e
+        ∙ ap Ok (found_is pin)
 
     -- what was written, cut into header and message, is taken
-    taken : (c : Command) (m : ℕ) → Wrote c (wrote (One c)) → length (data_of c) ≡ length_for c → length_for c + 8 ≡ m → (c ≡ SetPin → (block_read r (data_of c)).code ≡ 0)
-        → step r (Script (take 4 (drop place (wrote (One c)).buffer)) (take m (drop (place + 4) (wrote (One c)).buffer)))
-        ≡ plain (with_transaction r (pend_all (orders (One c) (block_read r (data_of c))) r.transaction)) 0
+    taken : (c : Command) (m : ℕ) → Wrote c (wrote (Ok c)) → length (data_of c) ≡ length_for c → length_for c + 8 ≡ m → (c ≡ SetPin → is_ok (block_read r (data_of c)) ≡ true)
+        → step r (Script (take 4 (drop place (wrote (Ok c)).buffer)) (take m (drop (place + 4) (wrote (Ok c)).buffer)))
+        ≡ plain (with_transaction r (pend_all (orders (Ok c) (block_read r (data_of c))) r.transaction)) 0
     taken c m w l e p =
         let s = (length-short c).0 in
         let z : length (message_of c) ≡ m = message_size smi (header_of c) (tag_for c) (data_of c) ∙ omega (arith, place_short (length (data_of c)) (omega arith)) in
-        let h : take 4 (drop place (wrote (One c)).buffer) ≡ header_of c =
+        let h : take 4 (drop place (wrote (Ok c)).buffer) ≡ header_of c =
         ap₂ (λ (x : ℕ) (y : List ℕ). take x (drop place y)) (sym (header_four c)) w.buffer ∙ first_there b place (header_of c) (message_of c) w.room
         in
-        let t : take m (drop (place + 4) (wrote (One c)).buffer) ≡ message_of c =
+        let t : take m (drop (place + 4) (wrote (Ok c)).buffer) ≡ message_of c =
         ap₂ (λ (x : ℕ) (y : List ℕ). take m (drop (place + x) y)) (sym (header_four c)) w.buffer
         ∙ ap (λ (x : ℕ). take x (drop (place + length (header_of c)) (laid b place (header_of c ++ message_of c)))) (sym z)
         ∙ second_there b place (header_of c) (message_of c) w.room
@@ -142,7 +140,7 @@ wrap_accepted d pan q i g pin b place r e ks n = go (eqb i 0x24) (eqb i 0x1e) (e
     k = own d pan q r ks
 
     asked : Bool → Bool → Bool → Written
-    asked x y z = wrote d pan q g pin b place (cond x (One SetPin) (cond y (One SetMark) (cond z (One ClearMark) (Unlisted Input))))
+    asked x y z = wrote d pan q g pin b place (cond x (Ok SetPin) (cond y (Ok SetMark) (cond z (Ok ClearMark) (Err Input))))
 
     go : (x y z : Bool) → (asked x y z).code ≡ 0
         → step r (Script (take 4 (drop place (asked x y z).buffer)) (take (cond x 16 8) (drop (place + 4) (asked x y z).buffer)))
@@ -150,8 +148,8 @@ wrap_accepted d pan q i g pin b place r e ks n = go (eqb i 0x24) (eqb i 0x1e) (e
     go true y z e =
         let w = wrote_so d pan q g pin b place SetPin e in
         let f = pin_read d pan q g pin b place r k n w.good in
-        taken d pan q g pin b place r k n SetPin 16 w (length-encipher _ _ ∙ sym length-is.0) (omega (arith, length-is.0)) (λ c. ap (λ (x : PinRead). x.code) f)
-        ∙ ap (λ (x : PinRead). plain (with_transaction r (pend (new_pin x.pin x.count) r.transaction)) 0) f
+        taken d pan q g pin b place r k n SetPin 16 w (length-encipher _ _ ∙ sym length-is.0) (omega (arith, length-is.0)) (λ c. ap is_ok f)
+        ∙ ap (λ (x : Result Pin Refusal). plain (with_transaction r (pend_all (orders (Ok SetPin) x) r.transaction)) 0) f
     go false true z e =
         taken d pan q g pin b place r k n SetMark 8 (wrote_so d pan q g pin b place SetMark e) (sym length-is.1) (omega (arith, length-is.1)) (λ c. cc)
     go false false true e =

@@ -1,7 +1,7 @@
 -- The desk and the soft card meet (Wish 7): what the desk wraps the card accepts, and does what was ordered; what the card answers to an Open the desk
 -- accepts, and the card its ARPC. Assumes nothing.
-use Rattle.std.specs.Prelude.{ℕ, ◌+◌, ◌-◌, ◌<◌, ◌≡◌, Bool, true, false, cond, List, ◌++◌, eqb, length, take, drop, replicate}
-use Rattle.std.proofs.Math.Option.{some}
+use Rattle.std.specs.Prelude.{ℕ, ◌+◌, ◌-◌, ◌<◌, ◌≡◌, Bool, true, false, cond, List, ◌++◌, eqb, length, take, drop, replicate, Some, Result, Ok}
+use Rattle.answers.specs.declared.Refusal.{Refusal}
 use Rattle.std.proofs.lemmas.List.Edits.{sets}
 use Rattle.octets.specs.Numbers.{be_octets}
 use Rattle.transaction.specs.Transaction.{is_open}
@@ -20,17 +20,17 @@ use Rattle.desk.specs.Check.{checks}
 use Rattle.desk.specs.Wrap.{wraps}
 
 -- "if it has the keys of that card": the record has the card's master keys as the box derives them from the issuer's three of the desk, by pairs or packed
-abbrev pub key_for : Bool → List ℕ → List ℕ → ℕ → List ℕ
-key_for packed issuer pan q = (cond packed (card_key_packed issuer pan q) (card_key issuer pan q)).bytes
+abbrev pub key_for : Bool → List ℕ → List ℕ → ℕ → Result (List ℕ) Refusal
+key_for packed issuer pan q = cond packed (card_key_packed issuer pan q) (card_key issuer pan q)
 
 pub record KeysOf (d : Desk) (pan : List ℕ) (q : ℕ) (r : Card) : Type 0 where
   pub fits : card_fits pan q ≡ true
   pub ac_long : length d.ac ≡ 32
   pub smi_long : length d.smi ≡ 32
   pub smc_long : length d.smc ≡ 32
-  pub ac : r.ac ≡ key_for d.packed d.ac pan q
-  pub smi : r.smi ≡ key_for d.packed d.smi pan q
-  pub smc : r.smc ≡ key_for d.packed d.smc pan q
+  pub ac : key_for d.packed d.ac pan q ≡ Ok r.ac
+  pub smi : key_for d.packed d.smi pan q ≡ Ok r.smi
+  pub smc : key_for d.packed d.smc pan q ≡ Ok r.smc
 
 -- "the transaction is open and its cryptogram is the one named"; the failure counter is not full
 pub record Named (r : Card) (g : List ℕ) : Type 0 where
@@ -66,16 +66,17 @@ abbrev pub sent : Card → List ℕ → List ℕ
 sent r m = sets m 31 (be_octets 2 (r.atc + 1))
 
 -- the card's answer to an Open, the desk's to that, and the card's to the ARPC
-pub record Met (csu : List ℕ) (o : Reply) (x : Checked) : Type 0 where
+pub record Met (csu : List ℕ) (o : Reply) (x : Result Checked Refusal) : Type 0 where
   pub opened : o.code ≡ 0
-  pub checked : x.code ≡ 0
-  pub answered : (step o.card (IssuerAnswer x.arpc csu)).code ≡ 0
+  pub answer : Checked
+  pub checked : x ≡ Ok answer
+  pub answered : (step o.card (IssuerAnswer answer.arpc csu)).code ≡ 0
 
 -- the card is held, and its counter is above the one that the table has of it, if any
 abbrev pub OpenAccepted : Type 0
 OpenAccepted =
     (d : Desk) (pan : List ℕ) (q : ℕ) (r : Card) (m csu : List ℕ) → CanOpen r → KeysOf d pan q r → length m ≡ 65 → length csu ≡ 4
-    → held (id_of pan q) d.places ≡ true → ((l : ℕ) → first (readings (id_of pan q) d.places) ≡ some l → l < r.atc + 1)
+    → held (id_of pan q) d.places ≡ true → ((l : ℕ) → first (readings (id_of pan q) d.places) ≡ Some l → l < r.atc + 1)
     → Met csu (step r (Open m)) (checks d pan q (sent r m) (step r (Open m)).bytes csu)
 
 -- both ways

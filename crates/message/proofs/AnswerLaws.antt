@@ -1,28 +1,48 @@
 -- What the entry points answer, test by test. Assumes nothing.
 use mathlib.Core.Path.{◌≡◌, refl, sym, ap, ap₂, ◌∙◌}
-use mathlib.Core.Bool.{Bool, true, false, not}
-use mathlib.Core.List.{List}
+use mathlib.Core.Bool.{Bool, true, false, not, cond}
+use mathlib.Core.List.{List, [], ◌∷◌}
 use Prim.Native.Nat.{ℕ, ◌+◌, ◌-◌}
 use native.Mathlib.Omega.{arith}
 use borrow.Author.Tests.{not-true, not-false}
+use lib.Dec.{eqb}
 use lib.ListN.{length, take, drop, length-drop}
 use lib.Seq.{take_all}
 use Rattle.octets.specs.Same.{same}
-use Rattle.shapes.specs.declared.Opened.{Opened}
-use Rattle.shapes.specs.declared.Opened.TheVariants.{Data, Refused}
-use Rattle.shapes.specs.Shape.{length_of, place_of, body_size_under, body_of_under, code_in_under, shape}
-use Rattle.shapes.specs.Answers.{opened_number, answer_under, Tells}
-use Rattle.shapes.proofs.AnswerLaws.{number_answer, tells, Told}
+use Rattle.std.specs.Prelude.{Result, Ok, Err}
+use Rattle.answers.specs.declared.Refusal.{Refusal}
+use Rattle.answers.specs.declared.Refusal.TheVariants.{Input, ShapeWrong, CodeDiffers}
+use Rattle.shapes.specs.declared.Found.{Found}
+use Rattle.shapes.specs.Shape.{length_of, place_of, tag_of, body_size_under, body_of_under, code_in_under, shape}
+use Rattle.shapes.specs.Answers.{found, found_in, opened_number, opened_values, Tells}
+use Rattle.shapes.proofs.AnswerLaws.{tells, Told}
 use Rattle.message.specs.Code.{code_for, given, code_fits, code_fits_under}
 use Rattle.message.specs.Answers.{open_number, open_number_under, opened, opened_under}
 
 pub number_opened : (key header m : List ℕ) → opened_number (opened key header m) ≡ open_number key header m
-unfolding opened_under
-number_opened key header m = number_answer (open_number key header m) m
+unfolding opened_under open_number_under
+number_opened key header m = go (given key header) (shape m) (code_fits key header m)
+  where
+    go : (a b c : Bool) → opened_number (cond a (cond b (cond c (Ok (found_in m)) (Err CodeDiffers)) (Err ShapeWrong)) (Err Input)) ≡ cond a (cond b (cond c 0 8) 4) 1
+    go true true true = refl
+    go true true false = refl
+    go true false c = refl
+    go false b c = refl
 
-pub tells_opened : (key header m : List ℕ) {r : Opened} → r ≡ opened key header m → Tells r (opened key header m) (open_number key header m) m
-unfolding opened_under
-tells_opened key header m e = tells (opened key header m) (open_number key header m) m refl e
+values_opened : (key header m : List ℕ) → opened_values (opened key header m) ≡ cond (eqb (open_number key header m) 0) (tag_of m ∷ place_of (length_of m) ∷ length_of m ∷ []) []
+unfolding opened_under open_number_under opened_values
+values_opened key header m = go (given key header) (shape m) (code_fits key header m)
+  where
+    go : (a b c : Bool)
+        → opened_values (cond a (cond b (cond c (Ok (found_in m)) (Err CodeDiffers)) (Err ShapeWrong)) (Err Input))
+        ≡ cond (eqb (cond a (cond b (cond c 0 8) 4) 1) 0) (tag_of m ∷ place_of (length_of m) ∷ length_of m ∷ []) []
+    go true true true = refl
+    go true true false = refl
+    go true false c = refl
+    go false b c = refl
+
+pub tells_opened : (key header m : List ℕ) {r : Result Found Refusal} → r ≡ opened key header m → Tells r (opened key header m) (open_number key header m) m
+tells_opened key header m e = tells (opened key header m) (open_number key header m) m (number_opened key header m) (values_opened key header m) e
 
 -- one law for each way out of the test of a code, and of opening
 module _ (key header m : List ℕ) (g : Bool) (e : g ≡ given key header) where
@@ -30,8 +50,8 @@ module _ (key header m : List ℕ) (g : Bool) (e : g ≡ given key header) where
   unfolding code_fits_under
   fits_given h = simp (sym e ∙ not-true g h)
 
-  pub open_given : not g ≡ true → Refused 1 ≡ opened key header m
-  unfolding opened_under open_number_under answer_under
+  pub open_given : not g ≡ true → Err Input ≡ opened key header m
+  unfolding opened_under
   open_given h = simp (sym e ∙ not-true g h)
 
   module _ (h : not g ≡ false) where
@@ -39,8 +59,8 @@ module _ (key header m : List ℕ) (g : Bool) (e : g ≡ given key header) where
     unfolding code_fits_under
     fits_shape b = simp (sym e ∙ not-false g h, b)
 
-    pub open_shape : shape m ≡ false → Refused 4 ≡ opened key header m
-    unfolding opened_under open_number_under answer_under
+    pub open_shape : shape m ≡ false → Err ShapeWrong ≡ opened key header m
+    unfolding opened_under
     open_shape b = simp (sym e ∙ not-false g h, b)
 
     module _ (t p n : ℕ) (w : Told m t p n) where
@@ -55,10 +75,10 @@ module _ (key header m : List ℕ) (g : Bool) (e : g ≡ given key header) where
           ∙ sym (simp (sym e ∙ not-false g h, w.good))
 
       module _ (r : Bool) (f : r ≡ code_fits key header m) where
-        pub open_code : not r ≡ true → Refused 8 ≡ opened key header m
-        unfolding opened_under open_number_under answer_under
+        pub open_code : not r ≡ true → Err CodeDiffers ≡ opened key header m
+        unfolding opened_under
         open_code i = simp (sym e ∙ not-false g h, w.good, sym f ∙ not-true r i)
 
-        pub open_data : not r ≡ false → Data t p n ≡ opened key header m
-        unfolding opened_under open_number_under answer_under
+        pub open_data : not r ≡ false → Ok (found t p n) ≡ opened key header m
+        unfolding opened_under
         open_data i = simp (sym e ∙ not-false g h, w.good, sym f ∙ not-false r i, w.the_tag, w.the_place, w.the_length)

@@ -9,15 +9,18 @@ use lib.Dec.{eqb}
 use lib.ListN.{length, take, drop, length-append}
 use Rattle.octets.specs.Same.{same}
 use Rattle.octets.proofs.SameLaws.{same_refl, same_true}
-use Rattle.shapes.specs.declared.Opened.TheVariants.{Data}
+use Rattle.std.specs.Prelude.{Result, Ok, Err}
+use Rattle.answers.specs.declared.Refusal.{Refusal}
+use Rattle.answers.specs.declared.Refusal.TheVariants.{Input, ShapeWrong, CodeDiffers}
+use Rattle.shapes.specs.declared.Found.{Found}
 use Rattle.shapes.specs.Length.{largest}
 use Rattle.shapes.specs.Shape.{length_of, place_of, tag_fits, body, body_size_under, size_of, size_of_under, tag_of, data_of, data_of_under, body_of, code_in, shape, shape_under}
-use Rattle.shapes.specs.Answers.{answer, answer_under}
+use Rattle.shapes.specs.Answers.{found, found_in}
 use Rattle.shapes.proofs.ShapeLaws.{length-body, length-read, tag_read, data_read, body_read, code_read, shape_parts}
 use Rattle.cipher.proofs.CodeLaws.{length_code_of}
 use Rattle.message.specs.Code.{code_for, message, message_under, given, code_fits, code_fits_under}
 use Rattle.octets.specs.Laid.{laid}
-use Rattle.message.specs.Answers.{open_number_under, opened, opened_under, wrap_number, Written, wrapped, wrapped_under}
+use Rattle.message.specs.Answers.{opened, opened_under, wrap_number, Written, wrapped, wrapped_under}
 use Rattle.octets.proofs.LaidLaws.{laid_there}
 use Rattle.message.proofs.WrapLaws.{accepted, wrap_fits, wrap_accepted}
 
@@ -65,8 +68,8 @@ module _ (key header : List ℕ) (tag : ℕ) (d : List ℕ) (g : given key heade
   unfolding m
   data_made = parts.2
 
-  pub open_made : opened key header (message key header tag d) ≡ Data tag (place_of (length d)) (length d)
-  unfolding opened_under open_number_under answer_under m
+  pub open_made : opened key header (message key header tag d) ≡ Ok (found tag (place_of (length d)) (length d))
+  unfolding opened_under m
   open_made =
       let p = parts in
       simp (g, made_shape, made_code, p.0, p.1)
@@ -107,7 +110,7 @@ module _ (key header : List ℕ) (tag : ℕ) (d b : List ℕ) (place : ℕ) (e :
       ∙ data_read tag d c a.most
 
   -- opening what was wrapped gives the tag, and a place and length at which the data stand
-  pub open_wrapped : (opened key header (written key header tag d b place) ≡ Data tag (place_of (length d)) (length d))
+  pub open_wrapped : (opened key header (written key header tag d b place) ≡ Ok (found tag (place_of (length d)) (length d)))
       × (take (length d) (drop (place_of (length d)) (written key header tag d b place)) ≡ d)
   open_wrapped =
       let a = accepted key header tag (length d) (length b) place number_zero in
@@ -122,16 +125,26 @@ pub record Taken (key header m : List ℕ) (tag place n : ℕ) : Type 0 where
   pub the_place : place ≡ place_of (length_of m)
   pub the_length : n ≡ length_of m
 
-pub taken : (key header m : List ℕ) (tag place n : ℕ) → opened key header m ≡ Data tag place n → Taken key header m tag place n
-unfolding opened_under open_number_under answer_under
+pub taken : (key header m : List ℕ) (tag place n : ℕ) → opened key header m ≡ Ok (found tag place n) → Taken key header m tag place n
+unfolding opened_under
 taken key header m tag place n e = go (given key header) refl (shape m) refl (code_fits key header m) refl e
   where
     go : (x : Bool) → given key header ≡ x → (y : Bool) → shape m ≡ y → (z : Bool) → code_fits key header m ≡ z
-        → answer (cond x (cond y (cond z 0 8) 4) 1) m ≡ Data tag place n → Taken key header m tag place n
-    go true f true g true h w = record { are_given = f; shaped_so = g; coded_so = h; the_tag = cc; the_place = cc; the_length = cc }
-    go true f true g false h w = let z : ◌≡◌ {A = ℕ} 0 1 = cc in absurd (omega arith)
-    go true f false g z h w = let z : ◌≡◌ {A = ℕ} 0 1 = cc in absurd (omega arith)
-    go false f y g z h w = let z : ◌≡◌ {A = ℕ} 0 1 = cc in absurd (omega arith)
+        → cond {A = Result Found Refusal} x (cond y (cond z (Ok (found_in m)) (Err CodeDiffers)) (Err ShapeWrong)) (Err Input) ≡ Ok (found tag place n)
+        → Taken key header m tag place n
+    go true f true g true h w =
+        let v : found tag place n ≡ found_in m = cc in
+        record {
+          are_given = f;
+          shaped_so = g;
+          coded_so = h;
+          the_tag = ap (λ (x : Found). x.tag) v;
+          the_place = ap (λ (x : Found). x.place) v;
+          the_length = ap (λ (x : Found). x.length) v;
+        }
+    go true f true g false h w = absurd cc
+    go true f false g z h w = absurd cc
+    go false f y g z h w = absurd cc
 
 code_there : (key header m : List ℕ) → code_fits key header m ≡ true → code_in m ≡ code_for key header (body_of m)
 unfolding code_fits_under
@@ -149,7 +162,7 @@ wraps_there key header tag d b place g t l h =
     (sym (wrap_fits key header tag (length d) (length b) place true (sym g) refl true (sym t) refl l (omega arith) (place_of (length d)) refl (omega arith)))
 
 -- wrapping what opening took, at any place of any buffer into which it fits, lays its bytes there
-pub wrap_opened : (key header m : List ℕ) (tag place n : ℕ) → opened key header m ≡ Data tag place n → (b : List ℕ) (p : ℕ) → p + length m ≤ length b
+pub wrap_opened : (key header m : List ℕ) (tag place n : ℕ) → opened key header m ≡ Ok (found tag place n) → (b : List ℕ) (p : ℕ) → p + length m ≤ length b
     → wrapped key header tag (take n (drop place m)) b p ≡ record { code = 0; buffer = laid b p m }
 unfolding data_of_under message_under
 wrap_opened key header m tag place n e b p l =

@@ -2,16 +2,23 @@
 use mathlib.Core.Path.{◌≡◌, refl, sym, ap, ap₂, ◌∙◌}
 use mathlib.Core.Bool.{Bool, true, false, ◌&&◌, not, cond, and-false, and-eq-true_iff}
 use mathlib.Core.List.{List, [], ◌∷◌, ◌++◌, append_assoc}
-use Prim.Native.Nat.{ℕ, ◌+◌, ◌-◌, ◌<◌, ◌≤◌}
+use Prim.Native.Nat.{ℕ, suc, ◌+◌, ◌-◌, ◌<◌, ◌≤◌}
 use native.Mathlib.Nat.{add-zero}
-use native.Mathlib.Numerals.{add-one, add-two, add-three}
+use native.Mathlib.Numerals.{add-one}
 use native.Mathlib.Omega.{arith}
-use borrow.Author.Tests.{eq-eqb, ne_eqb, le-leb, lt-leb, leb-true, not-true, not-false}
+use Rattle.std.specs.Prelude.{Result, Err}
+use Rattle.std.specs.Result.{IsErrAnd}
+use Rattle.std.proofs.lemmas.Result.{err_from_is_err_and}
+use Rattle.answers.specs.declared.Refusal.{Refusal}
+use Rattle.answers.specs.Refusals.{number}
+use Rattle.answers.specs.Answers.{number_told}
+use Rattle.answers.proofs.Laws.{not_zero}
+use borrow.Author.Tests.{eq-eqb, ne_eqb, eqb-false, le-leb, lt-leb, leb-true, not-true, not-false}
 use borrow.Rule.Slice.PartMut.{put_mid}
 use lib.Dec.{leb}
-use lib.ListN.{length, get_or, take, drop, set}
-use lib.Seq.{paste, sets-eq, take-length, take-take}
-use Rattle.octets.proofs.Parts.{elements, elements_all}
+use lib.ListN.{length, take, drop, set}
+use Rattle.std.proofs.lemmas.Slice.{put_mid-paste}
+use lib.Seq.{sets-eq, take-length, take-take}
 use Rattle.shapes.specs.Length.{largest, largest_short, length_field}
 use Rattle.shapes.specs.Shape.{place_of, tag_fits, code_head, body, body_under, body_size, body_size_under, size_of, size_of_under}
 use Rattle.shapes.proofs.LengthLaws.{field_short, field_long, place_short, place_long, largest_small, place_small, length_head}
@@ -34,24 +41,27 @@ tag_long b t n h l =
     let p = place_long n h in
     sets-eq (t ∷ 0x81 ∷ n ∷ []) b 0 (omega arith) ∙ ap (λ (f : List ℕ). laid b 0 (t ∷ f)) (sym (field_long n h))
 
--- four stores
-pub code_stored : (b : List ℕ) (p : ℕ) (c : List ℕ) → length c ≡ 4 → p + 4 ≤ length b
-    → set (set (set (set b p (get_or c 0 0)) (p + 1) (get_or c 1 0)) (p + 2) (get_or c 2 0)) (p + 3) (get_or c 3 0) ≡ laid b p c
+-- a string copied to its place
+pub copied : (b : List ℕ) (p k : ℕ) (d y : List ℕ) → y ≡ d → k ≡ length d → put_mid p k b y ≡ laid b p d
 unfolding laid
-code_stored b p c e h =
-    rw (add-one, add-two, add-three)
-    (sets-eq (elements c 0 0 4) b p h ∙ ap (λ (s : List ℕ). take p b ++ s ++ drop (p + length s) b) (sym (elements_all c 4 e)))
+copied b p k d y e n =
+    put_mid-paste p k b y d (length d) e (sym n) refl
+    ∙ ap (λ (s : List ℕ). take p b ++ s ++ drop (p + length d) b) (take-length d)
 
--- data copied, and the head of the code stored after them
-pub data_stored : (b : List ℕ) (p : ℕ) (d : List ℕ) → p + length d + 2 ≤ length b
-    → set (set (paste b p d (length d)) (p + length d) 0x8e) (p + length d + 1) 0x04 ≡ laid b p (d ++ code_head)
+-- the head of the code stored
+head_stored : (b : List ℕ) (i : ℕ) → i + 2 ≤ length b → set (set b i 0x8e) (suc i) 0x04 ≡ laid b i code_head
 unfolding laid code_head
-data_stored b p d h =
+head_stored b i l = sets-eq code_head b i l
+
+-- data copied, and the head of the code after them
+pub data_stored : (b : List ℕ) (p k : ℕ) (d y : List ℕ) → y ≡ d → k ≡ length d → p + length d + 2 ≤ length b
+    → set (set (put_mid p k b y) (p + length d) 0x8e) (p + length d + 1) 0x04 ≡ laid b p (d ++ code_head)
+unfolding code_head
+data_stored b p k d y e m h =
     let n = p + length d in
-    let e : paste b p d (length d) ≡ laid b p d = ap (λ (s : List ℕ). take p b ++ s ++ drop n b) (take-length d) in
     let l : length (laid b p d) ≡ length b = length-laid b p d (omega arith) in
-    ap₂ (λ (x : List ℕ) (k : ℕ). set (set x n 0x8e) k 0x04) e (add-one n)
-    ∙ sets-eq code_head (laid b p d) n (omega arith)
+    ap₂ (λ (x : List ℕ) (k : ℕ). set (set x n 0x8e) k 0x04) (copied b p k d y e m) (add-one n)
+    ∙ head_stored (laid b p d) n (omega arith)
     ∙ laid_laid b p d (omega arith) code_head n refl
 
 module _ (key header : List ℕ) (tag n size place : ℕ) where
@@ -114,11 +124,22 @@ accepted key header tag n size place e =
     go false f b g h = absurd (omega arith)
 
 module _ (key header : List ℕ) (tag : ℕ) (d b : List ℕ) (place : ℕ) where
-  pub wrap_refused : (r : ℕ) → r ≡ wrap_number key header tag (length d) (length b) place → (r ≡ 0 → ⊥) → Wrote (wrapped key header tag d b place) r b
+  pub wrap_refused : {A : Type 0} (r : Result A Refusal) → number_told r ≡ wrap_number key header tag (length d) (length b) place → (number_told r ≡ 0 → ⊥)
+      → Wrote (wrapped key header tag d b place) (number_told r) b
   unfolding wrapped_under
   wrap_refused r e h =
       let w = ne_eqb (wrap_number key header tag (length d) (length b) place) 0 (λ z. h (e ∙ z)) in
       record { code = simp w e; buffer = simp w }
+
+  pub wrap_err : {A : Type 0} (q : Refusal) (r : Result A Refusal) → number_told r ≡ wrap_number key header tag (length d) (length b) place → r ≡ Err q
+      → {B : Type 0} (s : Result B Refusal) → IsErrAnd s (λ e. e ≡ q) → Wrote (wrapped key header tag d b place) (number_told s) b
+  unfolding wrapped_under
+  wrap_err q r e f s h =
+      let p = err_from_is_err_and s h in
+      let v : number_told s ≡ number q = ap number_told p.1 ∙ ap number p.2 in
+      let u : wrap_number key header tag (length d) (length b) place ≡ number q = sym e ∙ ap number_told f in
+      let w = ne_eqb (wrap_number key header tag (length d) (length b) place) 0 (λ z. eqb-false (number q) 0 (not_zero q) (sym u ∙ z)) in
+      record { code = simp w (v ∙ sym u); buffer = simp w }
 
   pub wrap_accepted : wrap_number key header tag (length d) (length b) place ≡ 0
       → wrapped key header tag d b place ≡ record { code = 0; buffer = laid b place (message key header tag d) }

@@ -1,12 +1,13 @@
 -- What the entry points answer, for every input, in 01's order of refusals. Assumes nothing.
-use Rattle.std.specs.Prelude.{ℕ, ◌+◌, ◌≡◌, ◌&&◌, cond, List, leb, eqb, length}
+use Rattle.std.specs.Prelude.{ℕ, ◌+◌, ◌≡◌, ◌&&◌, cond, List, leb, eqb, length, Result, Ok, Err}
+use Rattle.answers.specs.declared.Refusal.{Refusal}
 use Rattle.answers.specs.declared.Refusal.TheVariants.{Input, NoRoom, ShapeWrong, CodeDiffers}
 use Rattle.answers.specs.Refusals.{number}
 use Rattle.octets.specs.Laid.{laid}
-use Rattle.shapes.specs.declared.Opened.{Opened}
+use Rattle.shapes.specs.declared.Found.{Found}
 use Rattle.shapes.specs.Rules.{Rules, present}
 use Rattle.shapes.specs.Shape.{tag_fits, size_of_under, shape_under}
-use Rattle.shapes.specs.Answers.{answer_under}
+use Rattle.shapes.specs.Answers.{found_in_under}
 use Rattle.message.specs.Code.{message_under, given, code_fits_under}
 
 -- opening: 1, 4, 8
@@ -17,10 +18,13 @@ open_number_under k key header m =
 abbrev pub open_number : List ℕ → List ℕ → List ℕ → ℕ
 open_number = open_number_under present
 
-unfoldable pub opened_under : Rules → List ℕ → List ℕ → List ℕ → Opened
-opened_under k key header m = answer_under k (open_number_under k key header m) m
+unfoldable pub opened_under : Rules → List ℕ → List ℕ → List ℕ → Result Found Refusal
+opened_under k key header m =
+    cond (given key header)
+    (cond (shape_under k m) (cond (code_fits_under k key header m) (Ok (found_in_under k m)) (Err CodeDiffers)) (Err ShapeWrong))
+    (Err Input)
 
-abbrev pub opened : List ℕ → List ℕ → List ℕ → Opened
+abbrev pub opened : List ℕ → List ℕ → List ℕ → Result Found Refusal
 opened = opened_under present
 
 -- wrapping: 1 (key, header, tag, L), 3 (the message does not fit from the place on)

@@ -7,19 +7,18 @@ ghost use Rattle.shapes.specs.Shape.{code_head, place_of, body_size};
 ghost use Rattle.shapes.specs.Answers.{Tells};
 ghost use Rattle.message.specs.Code.{X, Y, code_for, given as areGiven, code_fits};
 ghost use Rattle.octets.specs.Laid.{laid};
+ghost use Rattle.answers.specs.Answers.{number_told};
 ghost use Rattle.message.specs.Answers.{open_number, opened, wrap_number, wrapped, Wrote};
 
 use answers::Refusal;
-pub use shapes::{Command, Listed, Opened, shape};
+pub use shapes::{Command, Found, shape};
 
 // Whether key and header have their lengths.
+#[tactic(auto, unfolding(crate::specs::Code::given, octets::specs::Lengths::key_fits))]
 fn given(key: &[u8], header: &[u8]) -> bool
     ensures { result ≡ areGiven key.now header.now }
 {
-    if key.len() != 32 {
-        return false;
-    }
-    header.len() == 4
+    key.len() == 32 && header.len() == 4
 }
 
 // X of clause 4.1.1, and room for Y.
@@ -28,10 +27,7 @@ fn first_block(header: &[u8]) -> [u8; 272]
     ensures { result ≡ X header.now ++ replicate 264 0 }
 {
     let mut s = [0; 272];
-    s[0] = header[0];
-    s[1] = header[1];
-    s[2] = header[2];
-    s[3] = header[3];
+    s[..4].copy_from_slice(header);
     s[4] = 0x80;
     s
 }
@@ -43,11 +39,7 @@ fn string(header: &[u8], body: &[u8]) -> [u8; 272]
 {
     let mut s = first_block(header);
     let n = body.len();
-    let mut i = 0;
-    while i < n {
-        s[8 + i] = body[i];
-        i += 1;
-    }
+    s[8..8 + n].copy_from_slice(body);
     s[8 + n] = 0x80;
     s
 }
@@ -58,8 +50,7 @@ fn code_for(key: &[u8], header: &[u8], body: &[u8]) -> [u8; 4]
     ensures { result ≡ code_for key.now header.now body.now }
 {
     let s = string(header, body);
-    let answer = cipher::code(key, &s);
-    answer.bytes
+    cipher::code(key, &s).unwrap()
 }
 
 // Whether key and header have their lengths, the message its shape and its code.
@@ -69,33 +60,26 @@ pub fn code_fits(key: &[u8], header: &[u8], message: &[u8]) -> bool
     if !given(key, header) {
         return false;
     }
-    let Opened::Data {
-        tag: _,
-        place,
-        length,
-    } = shapes::shape(message)
-    else {
+    let Ok(found) = shape(message) else {
         return false;
     };
-    let k = place + length + 2;
+    let k = found.place + found.length + 2;
     let code = code_for(key, header, &message[..k]);
     octets::same(&message[k..], &code)
 }
 
 // Tag, place and length of the data of a message with its code under the key; or 1, 4 or 8.
-pub fn open_message(key: &[u8], header: &[u8], message: &[u8]) -> Opened
+pub fn open_message(key: &[u8], header: &[u8], message: &[u8]) -> Result<Found, Refusal>
     ensures { Tells result (opened key.now header.now message.now) (open_number key.now header.now message.now) message.now }
 {
     if !given(key, header) {
-        return Opened::Refused(Refusal::INPUT);
+        return Err(Refusal::Input);
     }
-    let Opened::Data { tag, place, length } = shapes::shape(message) else {
-        return Opened::Refused(Refusal::SHAPE_WRONG);
-    };
+    let found = shape(message)?;
     if !code_fits(key, header, message) {
-        return Opened::Refused(Refusal::CODE_DIFFERS);
+        return Err(Refusal::CodeDiffers);
     }
-    Opened::Data { tag, place, length }
+    Ok(found)
 }
 
 // Writes the tag, and the length field for n bytes of data.
@@ -119,11 +103,7 @@ fn write_data(part: &mut [u8], data: &[u8])
 {
     let n = data.len();
     let place = shapes::place_of(n);
-    let mut i = 0;
-    while i < n {
-        part[place + i] = data[i];
-        i += 1;
-    }
+    part[place..place + n].copy_from_slice(data);
     part[place + n] = 0x8e;
     part[place + n + 1] = 0x04;
 }
@@ -135,45 +115,44 @@ fn write_code(part: &mut [u8], key: &[u8], header: &[u8], n: usize)
 {
     let k = shapes::place_of(n) + n + 2;
     let code = code_for(key, header, &part[..k]);
-    part[k] = code[0];
-    part[k + 1] = code[1];
-    part[k + 2] = code[2];
-    part[k + 3] = code[3];
+    part[k..k + 4].copy_from_slice(&code);
 }
 
-// The number that wrapping n bytes of data to a place of a buffer of some size answers.
-fn wrap_number(key: &[u8], header: &[u8], tag: u8, n: usize, size: usize, place: usize) -> u8
-    ensures { result ≡ wrap_number key.now header.now tag n size place }
+// Whether n bytes of data may be wrapped to a place of a buffer of some size: 1, or 3 where they do not fit.
+fn may_wrap(
+    key: &[u8],
+    header: &[u8],
+    tag: u8,
+    n: usize,
+    size: usize,
+    place: usize,
+) -> Result<(), Refusal>
+    ensures { number_told result ≡ wrap_number key.now header.now tag n size place }
 {
-    if !given(key, header) {
-        return Refusal::INPUT;
+    if !given(key, header) || !shapes::is_tag(tag) || n > shapes::LARGEST {
+        return Err(Refusal::Input);
     }
-    if !shapes::is_tag(tag) {
-        return Refusal::INPUT;
+    if size < place || size - place < shapes::place_of(n) + n + 6 {
+        return Err(Refusal::NoRoom);
     }
-    if n > shapes::LARGEST {
-        return Refusal::INPUT;
-    }
-    if size < place {
-        return Refusal::NO_ROOM;
-    }
-    if size - place < shapes::place_of(n) + n + 6 {
-        return Refusal::NO_ROOM;
-    }
-    0
+    Ok(())
 }
 
-// Writes the message of a tag and data at a place of the buffer, and answers 0; or 1 or 3, and writes nothing.
-pub fn wrap(key: &[u8], header: &[u8], tag: u8, data: &[u8], buffer: &mut [u8], place: usize) -> u8
-    ensures { Wrote (wrapped key.now header.now tag «data».now buffer.old place) result buffer.new }
+// Writes the message of a tag and data at a place of the buffer; or 1 or 3, and writes nothing.
+pub fn wrap(
+    key: &[u8],
+    header: &[u8],
+    tag: u8,
+    data: &[u8],
+    buffer: &mut [u8],
+    place: usize,
+) -> Result<(), Refusal>
+    ensures { Wrote (wrapped key.now header.now tag «data».now buffer.old place) (number_told result) buffer.new }
 {
     let n = data.len();
-    let number = wrap_number(key, header, tag, n, buffer.len(), place);
-    if number != 0 {
-        return number;
-    }
+    may_wrap(key, header, tag, n, buffer.len(), place)?;
     write_tag(&mut buffer[place..], tag, n);
     write_data(&mut buffer[place..], data);
     write_code(&mut buffer[place..], key, header, n);
-    0
+    Ok(())
 }

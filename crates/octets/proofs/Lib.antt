@@ -6,3 +6,5 @@ pub mod Table
 pub mod Parts
 pub mod Arms
 pub mod LaidLaws
+pub mod FillerLaws
+pub mod PointwiseLaws

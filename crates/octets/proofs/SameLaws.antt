@@ -2,14 +2,13 @@
 use mathlib.Core.Path.{◌≡◌, refl, sym, ap, ap₂, ◌∙◌}
 use mathlib.Core.Bool.{Bool, true, false, ◌&&◌, and-false, and-true, and_assoc, true≢false}
 use mathlib.Core.List.{List, [], ◌∷◌}
-use Prim.Native.Nat.{ℕ, suc, ◌+◌, ◌≤◌, ◌<◌}
-use native.Mathlib.Numerals.{add-one}
+use mathlib.Core.Logic.{◌⊎◌, inl, inr}
+use Prim.Native.Nat.{ℕ, suc}
 use native.Mathlib.Omega.{arith}
 use borrow.Author.Tests.{eq-eqb, ne_eqb, eqb-true, eqb-false}
 use lib.Bits.{bit_or, bit_xor, xor_self, or_zero_r}
 use lib.Dec.{eqb}
-use lib.ListN.{length, drop, get_or, drop_of_length-le}
-use lib.Seq.{drop-cons}
+use lib.ListN.{length}
 use Rattle.octets.specs.Same.{same}
 use Rattle.octets.proofs.Xor.{or_zero, xor_zero}
 
@@ -50,17 +49,22 @@ no_difference d x y = go (eqb d 0) (eqb x y) refl refl
     go true false a b = ne_eqb (bit_or d (bit_xor x y)) 0 (λ z. eqb-false x y b (xor_zero x y (or_zero d (bit_xor x y) z).1))
     go false q a b = ne_eqb (bit_or d (bit_xor x y)) 0 (λ z. eqb-false d 0 a (or_zero d (bit_xor x y) z).0)
 
-pub same_turn : (s t : List ℕ) (d i : ℕ) → i < length s → length s ≡ length t
-    → (eqb (bit_or d (bit_xor (get_or s i 0) (get_or t i 0))) 0 && same (drop (i + 1) s) (drop (i + 1) t)) ≡ (eqb d 0 && same (drop i s) (drop i t))
+pub same_turn : (s t u v : List ℕ) (d x y : ℕ) (r : Bool) → s ≡ x ∷ u → t ≡ y ∷ v → (length s ≡ length t) × ((eqb d 0 && same s t) ≡ r)
+    → (length u ≡ length v) × ((eqb (bit_or d (bit_xor x y)) 0 && same u v) ≡ r)
 unfolding same
-same_turn s t d i h e =
-    let k : i < length t = omega arith in
-    ap (λ (b : Bool). b && same (drop (i + 1) s) (drop (i + 1) t)) (no_difference d (get_or s i 0) (get_or t i 0))
-    ∙ and_assoc (eqb d 0) (eqb (get_or s i 0) (get_or t i 0)) (same (drop (i + 1) s) (drop (i + 1) t))
-    ∙ ap (λ (b : Bool). eqb d 0 && b) (sym (rw (add-one, drop-cons s i 0, drop-cons t i 0) refl))
+same_turn s t u v d x y r e f h =
+    let l : suc (length u) ≡ suc (length v) = ap length (sym e) ∙ h.0 ∙ ap length f in (
+      omega arith,
+      ap (λ (b : Bool). b && same u v) (no_difference d x y)
+          ∙ and_assoc (eqb d 0) (eqb x y) (same u v)
+          ∙ ap₂ (λ (p q : List ℕ). eqb d 0 && same p q) (sym e) (sym f)
+          ∙ h.1,
+    )
 
-pub same_end : (s t : List ℕ) (d i : ℕ) → length s ≤ i → length s ≡ length t → (eqb d 0 && same (drop i s) (drop i t)) ≡ eqb d 0
+pub same_end : (s t : List ℕ) (d : ℕ) (r : Bool) → (length s ≡ length t) × ((eqb d 0 && same s t) ≡ r) → (length s ≡ 0) ⊎ (length t ≡ 0) → eqb d 0 ≡ r
 unfolding same
-same_end s t d i h e =
-    ap₂ (λ (x y : List ℕ). eqb d 0 && same x y) (drop_of_length-le s {i = i} h) (drop_of_length-le t {i = i} (omega arith))
-    ∙ and-true (eqb d 0)
+same_end [] [] d r h o = sym (and-true (eqb d 0)) ∙ h.1
+same_end [] (y ∷ t) d r h o = let z : 0 ≡ suc (length t) = h.0 in absurd (omega arith)
+same_end (x ∷ s) [] d r h o = let z : suc (length s) ≡ 0 = h.0 in absurd (omega arith)
+same_end (x ∷ s) (y ∷ t) d r h (inl z) = let w : suc (length s) ≡ 0 = z in absurd (omega arith)
+same_end (x ∷ s) (y ∷ t) d r h (inr z) = let w : suc (length t) ≡ 0 = z in absurd (omega arith)

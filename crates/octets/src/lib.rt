@@ -7,47 +7,41 @@ ghost use Rattle.octets.specs.Same.{same as alike};
 ghost use Rattle.octets.specs.Digits.{digits as areDigits, hex_digit, hex_octet, hex_value};
 
 // The word of four octets, least significant first.
+#[tactic(auto, unfolding(crate::specs::Numbers::le))]
 pub fn word(b0: u8, b1: u8, b2: u8, b3: u8) -> u32
     ensures { result ≡ le (b0 ∷ b1 ∷ b2 ∷ b3 ∷ []) }
 {
-    b0 as u32 + 256 * (b1 as u32 + 256 * (b2 as u32 + 256 * b3 as u32))
+    u32::from_le_bytes([b0, b1, b2, b3])
 }
 
 // The four octets of a word, least significant first.
 pub fn word_octets(x: u32) -> [u8; 4]
     ensures { result ≡ le_octets 4 x }
 {
-    let x1 = x / 256;
-    let x2 = x1 / 256;
-    let x3 = x2 / 256;
-    [
-        (x % 256) as u8,
-        (x1 % 256) as u8,
-        (x2 % 256) as u8,
-        (x3 % 256) as u8,
-    ]
+    x.to_le_bytes()
 }
 
 // The number of two octets, high first.
+#[tactic(auto, unfolding(crate::specs::Numbers::le, crate::specs::Numbers::be))]
 pub fn high_low(high: u8, low: u8) -> u16
     ensures { result ≡ be (high ∷ low ∷ []) }
 {
-    256 * high as u16 + low as u16
+    u16::from_be_bytes([high, low])
 }
 
 // The two octets of a number of 16 bits, high first.
+#[tactic(auto, unfolding(crate::specs::Numbers::le_octets, crate::specs::Numbers::be_octets))]
 pub fn high_first(x: u16) -> [u8; 2]
     ensures { result ≡ be_octets 2 x }
 {
-    [(x / 256 % 256) as u8, (x % 256) as u8]
+    x.to_be_bytes()
 }
 
 // Octet i modulo 8 of a word of 64 bits, least significant first.
 pub fn octet(x: u64, i: usize) -> u8
     ensures { result ≡ get_or (le_octets 8 x) (i % 8) 0 }
 {
-    let s = (i % 8 * 8) as u32;
-    ((x >> s) % 256) as u8
+    x.to_le_bytes()[i % 8]
 }
 
 // Whether two strings are equal. It looks at every octet and leaves early for no difference.
@@ -58,10 +52,8 @@ pub fn same(a: &[u8], b: &[u8]) -> bool
         return false;
     }
     let mut differ: u8 = 0;
-    let mut i = 0;
-    while i < a.len() {
-        differ = differ | (a[i] ^ b[i]);
-        i += 1;
+    for (x, y) in a.iter().zip(b) {
+        differ |= *x ^ *y;
     }
     differ == 0
 }
@@ -70,26 +62,15 @@ pub fn same(a: &[u8], b: &[u8]) -> bool
 pub fn digits(s: &[u8], n: usize, filler: u8) -> bool
     ensures { result ≡ areDigits filler n s.now }
 {
-    let mut left = n;
-    let mut i = 0;
-    while i < s.len() {
-        let x = s[i];
-        if left == 0 {
-            if x != filler {
-                return false;
-            }
-        } else {
-            if x > 9 {
-                return false;
-            }
-            left -= 1;
-        }
-        i += 1;
+    if n > s.len() {
+        return false;
     }
-    left == 0
+    let (front, rest) = s.split_at(n);
+    front.iter().all(|x| *x <= 9) && rest.iter().all(|x| *x == filler)
 }
 
 // The hexadecimal digit of the lower half of n.
+#[tactic(auto, unfolding(crate::specs::Digits::hex_digit))]
 pub fn hex_digit(n: u8) -> u8
     ensures { result ≡ hex_digit (n % 16) }
 {
@@ -105,20 +86,13 @@ pub fn hex(b: u8) -> [u8; 2]
 }
 
 // The number that a hexadecimal digit stands for; 16 for any other sign.
+#[tactic(auto, unfolding(crate::specs::Digits::hex_value))]
 pub fn hex_value(x: u8) -> u8
     ensures { result ≡ hex_value x }
 {
-    if x <= 47 {
-        return 16;
+    match x {
+        b'0'..=b'9' => x - b'0',
+        b'a'..=b'f' => x - b'a' + 10,
+        _ => 16,
     }
-    if x <= 57 {
-        return x - 48;
-    }
-    if x <= 96 {
-        return 16;
-    }
-    if x <= 102 {
-        return x - 87;
-    }
-    16
 }

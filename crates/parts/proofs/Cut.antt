@@ -9,7 +9,6 @@ use lib.Bits.{bit_xor, xor_lt}
 use lib.Dec.{lit<, eqb}
 use lib.ListN.{length, get_or, replicate, length-append, length-replicate}
 use Rattle.octets.specs.Numbers.{Octets}
-use Rattle.octets.specs.Lengths.{key_fits}
 use Rattle.octets.proofs.Parts.{zeros, octets-take, octets-append, below_zeros, octets-drop}
 use Rattle.blocks.specs.Blocks.{absorbed, tail}
 use Rattle.blocks.specs.Parts.{Way, fits, part_number, fitting, filled, poured, counted, after, after_all, CutAnyWay}
@@ -18,26 +17,27 @@ use Rattle.hash.specs.declared.Core.{Core}
 use Rattle.hash.specs.declared.State.{State}
 use Rattle.hash.specs.Hash.{start, block_step, hash256}
 use Rattle.hash.specs.States.{state_of, held, hash_way, begun, poured_into, fed, ended}
-use Rattle.hash.proofs.Laws.{hash_cut}
+use Rattle.hash.proofs.Laws.{told, left, cut_alike, hash_cut}
+use Rattle.std.specs.Prelude.{Result, Ok, Err}
+use Rattle.std.specs.Result.{result_unwrap_or}
+use Rattle.answers.specs.declared.Refusal.{Refusal}
+use Rattle.answers.specs.Answers.{number_told}
 use Rattle.derive.specs.declared.Started.{Started}
-use Rattle.derive.specs.declared.MacFed.{MacFed}
 use Rattle.derive.specs.Hmac.{key_pad, ipad, opad, hmac}
 use Rattle.derive.specs.Started.{started}
 use Rattle.derive.specs.Macing.{mac_way, mac_begun, mac_fed, mac_ended}
-use Rattle.derive.proofs.MacLaws.{started_cut, mac_begins}
+use Rattle.derive.proofs.MacLaws.{started_cut, mac_begins, begun_fits as macBegunFits}
 use Rattle.gost.specs.declared.Halves.{Halves}
 use Rattle.gost.specs.Gost.{subkeys}
 use Rattle.gost.proofs.Rounds.{Words}
 use Rattle.cipher.specs.declared.Coding.{Coding}
-use Rattle.cipher.specs.declared.CodeFed.{CodeFed}
 use Rattle.cipher.specs.Code.{code_step, start as halvesStart}
-use Rattle.cipher.specs.declared.CodeAnswer.{CodeAnswer}
 use Rattle.cipher.specs.Answers.{coded_with, coded}
-use Rattle.cipher.specs.Coding.{coding_of, held as codeHeld, code_way, coding_begun, code_begun, code_fed, code_ended}
+use Rattle.cipher.specs.Coding.{coding_of, held as codeHeld, code_way, coding_begun, code_begun, code_ended}
 use Rattle.cipher.proofs.AnswerLaws.{code_key}
-use Rattle.cipher.proofs.CodingLaws.{under_cut, code_begins}
+use Rattle.cipher.proofs.CodingLaws.{under_cut, code_begins, begun_fits as codeBegunFits}
 use Rattle.parts.specs.Forms.{Form, hash_in, hash_form, mac_in, mac_form, code_in, code_form}
-use Rattle.parts.specs.Lent.{lent_fits, begun_number, begun_after, fed_number, fed_after, ended_number, ended_after}
+use Rattle.parts.specs.Lent.{lent_fits, written, begun_number, begun_after, fed_number, fed_after, ended_number, ended_after}
 use Rattle.parts.specs.Statement.{Strings, more, LentAnyWay}
 use Rattle.parts.proofs.LayLaws.{length-hash_out}
 use Rattle.parts.proofs.WordLaws.{CoreGood, start_good, step_good, code_step_good, subkeys_below, length-subkeys, absorbed_keeps}
@@ -54,21 +54,22 @@ pick true g a s = refl
 pick false g a s = refl
 
 -- a refused beginning leaves every lent byte
-pub begun_stays : {S : Type 0} (f : Form S) (c : ℕ) (s : S) (b : List ℕ) → (begun_number f c b ≡ 0 → ⊥) → begun_after f c s b ≡ b
+pub begun_stays : {S : Type 0} (f : Form S) (r : Result S Refusal) (b : List ℕ) → (begun_number f r b ≡ 0 → ⊥) → begun_after f r b ≡ b
 unfolding begun_number begun_after
-begun_stays {S} f c s b h = by (lent_fits f b) h
+begun_stays {S} f r b h = by (lent_fits f b) r h
   where
-    by : (r : Bool) → (cond r c 1 ≡ 0 → ⊥) → cond (r && eqb c 0) (f.out s) b ≡ b
-    by true h = ap (λ (e : Bool). cond e (f.out s) b) (ne_eqb c 0 h)
-    by false h = refl
+    by : (t : Bool) (r : Result S Refusal) → (cond t (number_told r) 1 ≡ 0 → ⊥) → cond t (written f r b) b ≡ b
+    by true (Ok s) h = absurd (h refl)
+    by true (Err q) h = refl
+    by false r h = refl
 
-begins_by : {S : Type 0} (f : Form S) (c : ℕ) (b : List ℕ) → begun_number f c b ≡ cond (eqb (length b) f.size) c 1
+begins_by : {S : Type 0} (f : Form S) (r : Result S Refusal) (b : List ℕ) → begun_number f r b ≡ cond (eqb (length b) f.size) (number_told r) 1
 unfolding begun_number lent_fits
-begins_by f c b = refl
+begins_by f r b = refl
 
 module _ {S A : Type 0} (f : Form S) (w : Way S A) (P : S → Type 0) (again : (s : S) → P s → f.into (f.out s) ≡ s)
     (size : (s : S) → P s → length (f.out s) ≡ f.size) (keeps : (s : S) (m : List ℕ) → P s → Octets m → P (after w s m)) where
-  begun_out : (s : S) (b : List ℕ) → length b ≡ f.size → begun_after f 0 s b ≡ f.out s
+  begun_out : (s : S) (b : List ℕ) → length b ≡ f.size → begun_after f (Ok s) b ≡ f.out s
   unfolding begun_after lent_fits
   begun_out s b h = simp (eq-eqb (length b) f.size h)
 
@@ -93,25 +94,25 @@ module _ {S A : Type 0} (f : Form S) (w : Way S A) (P : S → Type 0) (again : (
   all_out [] s p o = refl
   all_out (m ∷ ms) s p (more h o) = ap (λ (b : List ℕ). after_all (fed_after f w) b ms) (fed_out s m p) ∙ all_out ms (after w s m) (keeps s m p h) o
 
-  -- what an end answers, by the number code and the octets of a state
-  module _ (room : ℕ) (code : S → ℕ) (octets : S → List ℕ) where
+  -- what an end answers, by the answer of a state
+  module _ (room : ℕ) (answer : S → Result (List ℕ) Refusal) where
     end_number : List ℕ → List ℕ → ℕ
-    end_number b out = ended_number f room b out (code (f.into b))
+    end_number b out = ended_number f room b out (answer (f.into b))
 
     end_after : List ℕ → List ℕ → List ℕ
-    end_after b out = ended_after f room b out (code (f.into b)) (octets (f.into b))
+    end_after b out = ended_after f room b out (answer (f.into b))
 
-    end_number_lem : (s : S) (out : List ℕ) → P s → length out ≡ room → end_number (f.out s) out ≡ code s
+    end_number_lem : (s : S) (out : List ℕ) → P s → length out ≡ room → end_number (f.out s) out ≡ number_told (answer s)
     unfolding end_number ended_number lent_fits
     end_number_lem s out p h =
-        ap₂ (λ (r : Bool) (x : S). cond (r && eqb (length out) room) (code x) 1) (eq-eqb (length (f.out s)) f.size (size s p)) (again s p)
-        ∙ ap (λ (r : Bool). cond r (code s) 1) (eq-eqb (length out) room h)
+        ap₂ (λ (r : Bool) (x : S). cond (r && eqb (length out) room) (number_told (answer x)) 1) (eq-eqb (length (f.out s)) f.size (size s p)) (again s p)
+        ∙ ap (λ (r : Bool). cond r (number_told (answer s)) 1) (eq-eqb (length out) room h)
 
-    end_after_lem : (s : S) (out : List ℕ) → P s → length out ≡ room → end_after (f.out s) out ≡ cond (eqb (code s) 0) (octets s) out
+    end_after_lem : (s : S) (out : List ℕ) → P s → length out ≡ room → end_after (f.out s) out ≡ result_unwrap_or (answer s) out
     unfolding end_after ended_after lent_fits
     end_after_lem s out p h =
-        ap₂ (λ (r : Bool) (x : S). cond (r && eqb (length out) room && eqb (code x) 0) (octets x) out) (eq-eqb (length (f.out s)) f.size (size s p)) (again s p)
-        ∙ ap (λ (r : Bool). cond (r && eqb (code s) 0) (octets s) out) (eq-eqb (length out) room h)
+        ap₂ (λ (r : Bool) (x : S). cond (r && eqb (length out) room) (result_unwrap_or (answer x) out) out) (eq-eqb (length (f.out s)) f.size (size s p)) (again s p)
+        ∙ ap (λ (r : Bool). cond r (result_unwrap_or (answer s) out) out) (eq-eqb (length out) room h)
 
     -- for any bytes: what is refused leaves them
     fed_stays : (b m : List ℕ) → (fed_number f w b m ≡ 0 → ⊥) → fed_after f w b m ≡ b
@@ -125,15 +126,12 @@ module _ {S A : Type 0} (f : Form S) (w : Way S A) (P : S → Type 0) (again : (
 
     end_stays : (b out : List ℕ) → (end_number b out ≡ 0 → ⊥) → end_after b out ≡ out
     unfolding end_number end_after ended_number ended_after
-    end_stays b out h = by (lent_fits f b) (eqb (length out) room) h
+    end_stays b out h = by (lent_fits f b && eqb (length out) room) (answer (f.into b)) h
       where
-        c : ℕ
-        c = code (f.into b)
-
-        by : (r t : Bool) → (cond (r && t) c 1 ≡ 0 → ⊥) → cond (r && t && eqb c 0) (octets (f.into b)) out ≡ out
-        by true true h = ap (λ (e : Bool). cond e (octets (f.into b)) out) (ne_eqb c 0 h)
-        by true false h = refl
-        by false t h = refl
+        by : (t : Bool) (r : Result (List ℕ) Refusal) → (cond t (number_told r) 1 ≡ 0 → ⊥) → cond t (result_unwrap_or r out) out ≡ out
+        by true (Ok x) h = absurd (h refl)
+        by true (Err q) h = refl
+        by false r h = refl
 
     part_other : (b m : List ℕ) → (length b ≡ f.size → ⊥) → fed_number f w b m ≡ 1
     unfolding fed_number lent_fits
@@ -141,22 +139,21 @@ module _ {S A : Type 0} (f : Form S) (w : Way S A) (P : S → Type 0) (again : (
 
     end_other : (b out : List ℕ) → (length b ≡ f.size → ⊥) → end_number b out ≡ 1
     unfolding end_number ended_number lent_fits
-    end_other b out h = ap (λ (r : Bool). cond (r && eqb (length out) room) (code (f.into b)) 1) (ne_eqb (length b) f.size h)
+    end_other b out h = ap (λ (r : Bool). cond (r && eqb (length out) room) (number_told (answer (f.into b))) 1) (ne_eqb (length b) f.size h)
 
     room_other : (b out : List ℕ) → (length out ≡ room → ⊥) → end_number b out ≡ 1
     unfolding end_number ended_number
     room_other b out h =
-        ap (λ (r : Bool). cond (lent_fits f b && r) (code (f.into b)) 1) (ne_eqb (length out) room h)
-        ∙ ap (λ (r : Bool). cond r (code (f.into b)) 1) (and-false (lent_fits f b))
+        ap (λ (r : Bool). cond (lent_fits f b && r) (number_told (answer (f.into b))) 1) (ne_eqb (length out) room h)
+        ∙ ap (λ (r : Bool). cond r (number_told (answer (f.into b))) 1) (and-false (lent_fits f b))
 
-    lent_any_way : {R : Type 0} (begun : S) (ended : S → R) (answer : List ℕ → R) (number : List ℕ → ℕ) (bytes : List ℕ → List ℕ) → P begun
-        → CutAnyWay begun (λ s m. part_number (w.total s) m) (after w) ended answer
-        → ((ms : List (List ℕ)) → code (after_all (after w) begun ms) ≡ number (fitting 0 ms))
-        → ((ms : List (List ℕ)) → octets (after_all (after w) begun ms) ≡ bytes (fitting 0 ms))
-        → LentAnyWay f.size (begun_number f 0) (begun_after f 0 begun) (fed_number f w) (fed_after f w) end_number end_after room number bytes
-    lent_any_way begun ended answer number bytes p c ec eb =
+    lent_any_way : {R : Type 0} (begun : S) (ended : S → R) (reply : List ℕ → R) (told_of : List ℕ → Result (List ℕ) Refusal) → P begun
+        → CutAnyWay begun (λ s m. part_number (w.total s) m) (after w) ended reply
+        → ((ms : List (List ℕ)) → answer (after_all (after w) begun ms) ≡ told_of (fitting 0 ms))
+        → LentAnyWay f.size (begun_number f (Ok begun)) (begun_after f (Ok begun)) (fed_number f w) (fed_after f w) end_number end_after room told_of
+    lent_any_way begun ended reply told_of p c ec =
         let states : (b : List ℕ) (ms : List (List ℕ)) → length b ≡ f.size → Strings ms
-        → after_all (fed_after f w) (begun_after f 0 begun b) ms ≡ f.out (after_all (after w) begun ms) =
+        → after_all (fed_after f w) (begun_after f (Ok begun) b) ms ≡ f.out (after_all (after w) begun ms) =
         λ b ms h o. ap (λ (x : List ℕ). after_all (fed_after f w) x ms) (begun_out begun b h) ∙ all_out ms begun p o in
         record {
           numbered = λ b ms m h o.
@@ -164,17 +161,17 @@ module _ {S A : Type 0} (f : Form S) (w : Way S A) (P : S → Type 0) (again : (
           ended = λ b ms out h o l.
               let s : S = after_all (after w) begun ms in
               let k : P s = all_kept ms begun p o in (
-                ap (λ (x : List ℕ). end_number x out) (states b ms h o) ∙ end_number_lem s out k l ∙ ec ms,
+                ap (λ (x : List ℕ). end_number x out) (states b ms h o) ∙ end_number_lem s out k l ∙ ap number_told (ec ms),
                 ap (λ (x : List ℕ). end_after x out) (states b ms h o)
                     ∙ end_after_lem s out k l
-                    ∙ ap₂ (λ (n : ℕ) (x : List ℕ). cond (eqb n 0) x out) (ec ms) (eb ms),
+                    ∙ ap (λ (r : Result (List ℕ) Refusal). result_unwrap_or r out) (ec ms),
               );
           same = λ b ms ns h o q e. states b ms h o ∙ ap f.out (c.same ms ns e) ∙ sym (states b ns h q);
-          begins = begins_by f 0;
+          begins = begins_by f (Ok begun);
           other_part = part_other;
           other_end = end_other;
           other_room = room_other;
-          unbegun = begun_stays f 0 begun;
+          unbegun = begun_stays f (Ok begun);
           unchanged = fed_stays;
           unwritten = end_stays;
         }
@@ -234,13 +231,19 @@ counted_good s m k o h = poured_good s m (s.total + length m) k o h
 fed_good : (s : State) (m : List ℕ) → Good s → Octets m → Good (after hash_way s m)
 fed_good s m k o = after_keeps hash_way Good s m k (counted_good s m k o)
 
+-- the cutting by value, as its numbers and states
+hash_way_cut : CutAnyWay begun (λ s m. part_number s.total m) (after hash_way) ended hash256
+unfolding fed part_number after
+hash_way_cut =
+    cut_alike (λ s m. told (counted hash_way s m) (fits s.total (length m))) (λ s m. left (counted hash_way s m) s (fits s.total (length m))) hash_cut
+
 -- Wish 5 over lent bytes, for the hash
-pub hash_lent : LentAnyWay 261 (begun_number hash_form 0) (begun_after hash_form 0 begun) (fed_number hash_form hash_way) (fed_after hash_form hash_way) (λ b out. ended_number hash_form 32 b out 0)
-    (λ b out. ended_after hash_form 32 b out 0 (ended (hash_in b))) 32 (λ m. 0) hash256
-unfolding fed end_number end_after
+pub hash_lent : LentAnyWay 261 (begun_number hash_form (Ok begun)) (begun_after hash_form (Ok begun)) (fed_number hash_form hash_way) (fed_after hash_form hash_way)
+    (λ b out. ended_number hash_form 32 b out (Ok (ended (hash_in b)))) (λ b out. ended_after hash_form 32 b out (Ok (ended (hash_in b)))) 32 (λ m. Ok (hash256 m))
+unfolding end_number end_after
 hash_lent =
-    lent_any_way hash_form hash_way Good hash_again (λ s k. length-hash_out s (sized s k)) fed_good 32 (λ s. 0) ended begun ended hash256 (λ m. 0) hash256 begun_good hash_cut
-    (λ ms. refl) hash_cut.answered
+    lent_any_way hash_form hash_way Good hash_again (λ s k. length-hash_out s (sized s k)) fed_good 32 (λ s. Ok (ended s)) begun ended hash256 (λ m. Ok (hash256 m)) begun_good
+    hash_way_cut (λ ms. ap Ok (hash_way_cut.answered ms))
 
 -- ---- HMAC
 
@@ -273,29 +276,30 @@ started_good key o =
       outer_good = poured_good begun (key_pad 0x5c key) begun.total begun_good (octets_pad 0x5c key (lit< tt) o) begun_total;
     }
 
-mac_begun_lem : (key : List ℕ) → length key ≡ 32 → mac_begun key ≡ record { code = 0; state = started key }
-unfolding mac_begun key_fits
-mac_begun_lem key h = simp (eq-eqb (length key) 32 h)
+mac_way_cut : (key : List ℕ) → CutAnyWay (started key) (λ s m. part_number s.inner.total m) (after mac_way) mac_ended (hmac key)
+unfolding mac_fed part_number after
+mac_way_cut key =
+    cut_alike (λ s m. told (counted mac_way s m) (fits s.inner.total (length m))) (λ s m. left (counted mac_way s m) s (fits s.inner.total (length m))) (started_cut key)
 
-mac_under : (key : List ℕ) → Octets key → length key ≡ 32
-    → LentAnyWay 522 (begun_number mac_form 0) (begun_after mac_form 0 (started key)) (fed_number mac_form mac_way) (fed_after mac_form mac_way) (λ b out. ended_number mac_form 32 b out 0)
-    (λ b out. ended_after mac_form 32 b out 0 (mac_ended (mac_in b))) 32 (λ m. 0) (hmac key)
-unfolding mac_fed end_number end_after
-mac_under key o h =
-    let c = started_cut key in
-    lent_any_way mac_form mac_way MacGood mac_again length-mac_out mac_fed_lem 32 (λ s. 0) mac_ended (started key) mac_ended (hmac key) (λ m. 0) (hmac key) (started_good key o) c
-    (λ ms. refl) c.answered
+mac_under : (key : List ℕ) → Octets key
+    → LentAnyWay 522 (begun_number mac_form (Ok (started key))) (begun_after mac_form (Ok (started key))) (fed_number mac_form mac_way) (fed_after mac_form mac_way)
+    (λ b out. ended_number mac_form 32 b out (Ok (mac_ended (mac_in b)))) (λ b out. ended_after mac_form 32 b out (Ok (mac_ended (mac_in b)))) 32 (λ m. Ok (hmac key m))
+unfolding end_number end_after
+mac_under key o =
+    let c = mac_way_cut key in
+    lent_any_way mac_form mac_way MacGood mac_again length-mac_out mac_fed_lem 32 (λ s. Ok (mac_ended s)) (started key) mac_ended (hmac key) (λ m. Ok (hmac key m))
+    (started_good key o) c (λ ms. ap Ok (c.answered ms))
 
 -- Wish 5 over lent bytes, for HMAC
 pub mac_lent : (key : List ℕ) → Octets key → length key ≡ 32
-    → LentAnyWay 522 (begun_number mac_form (mac_begun key).code) (begun_after mac_form (mac_begun key).code (mac_begun key).state) (fed_number mac_form mac_way) (fed_after mac_form mac_way)
-    (λ b out. ended_number mac_form 32 b out 0) (λ b out. ended_after mac_form 32 b out 0 (mac_ended (mac_in b))) 32 (λ m. 0) (hmac key)
+    → LentAnyWay 522 (begun_number mac_form (mac_begun key)) (begun_after mac_form (mac_begun key)) (fed_number mac_form mac_way) (fed_after mac_form mac_way)
+    (λ b out. ended_number mac_form 32 b out (Ok (mac_ended (mac_in b)))) (λ b out. ended_after mac_form 32 b out (Ok (mac_ended (mac_in b)))) 32 (λ m. Ok (hmac key m))
 mac_lent key o h =
     subst
-    (λ (r : MacFed).
-    LentAnyWay 522 (begun_number mac_form r.code) (begun_after mac_form r.code r.state) (fed_number mac_form mac_way) (fed_after mac_form mac_way) (λ b out. ended_number mac_form 32 b out 0)
-    (λ b out. ended_after mac_form 32 b out 0 (mac_ended (mac_in b))) 32 (λ m. 0) (hmac key))
-    (sym (mac_begun_lem key h)) (mac_under key o h)
+    (λ (r : Result Started Refusal).
+    LentAnyWay 522 (begun_number mac_form r) (begun_after mac_form r) (fed_number mac_form mac_way) (fed_after mac_form mac_way)
+    (λ b out. ended_number mac_form 32 b out (Ok (mac_ended (mac_in b)))) (λ b out. ended_after mac_form 32 b out (Ok (mac_ended (mac_in b)))) 32 (λ m. Ok (hmac key m)))
+    (macBegunFits key h) (mac_under key o)
 
 -- ---- the code
 
@@ -325,45 +329,36 @@ unfolding coding_begun halvesStart
 code_start_good key o =
     coding_good (subkeys 8 key) halvesStart [] 0 (length-subkeys 8 key) (subkeys_below 8 key o) (record { low = lit< tt; high = lit< tt }) (lit< tt) (λ i. lit< tt) (lit< tt)
 
-code_begun_lem : (key : List ℕ) → length key ≡ 32 → code_begun key ≡ record { code = 0; state = coding_begun (subkeys 8 key) }
-unfolding code_begun key_fits
-code_begun_lem key h = simp (eq-eqb (length key) 32 h)
-
 code_under : (key : List ℕ) → Octets key → length key ≡ 32
-    → LentAnyWay 53 (begun_number code_form 0) (begun_after code_form 0 (coding_begun (subkeys 8 key))) (fed_number code_form code_way) (fed_after code_form code_way)
-    (λ b out. ended_number code_form 4 b out (code_ended (code_in b)).code)
-    (λ b out. ended_after code_form 4 b out (code_ended (code_in b)).code (code_ended (code_in b)).bytes) 4 (λ m. (coded key m).code) (λ m. (coded key m).bytes)
-unfolding code_fed end_number end_after
+    → LentAnyWay 53 (begun_number code_form (Ok (coding_begun (subkeys 8 key)))) (begun_after code_form (Ok (coding_begun (subkeys 8 key)))) (fed_number code_form code_way)
+    (fed_after code_form code_way) (λ b out. ended_number code_form 4 b out (code_ended (code_in b))) (λ b out. ended_after code_form 4 b out (code_ended (code_in b))) 4 (coded key)
+unfolding end_number end_after
 code_under key o h =
     let ks : List ℕ = subkeys 8 key in
     let c = under_cut ks in
-    let e : (ms : List (List ℕ)) → code_ended (after_all (after code_way) (coding_begun ks) ms) ≡ coded key (fitting 0 ms) = λ ms. c.answered ms ∙ code_key key (fitting 0 ms) h in
-    lent_any_way code_form code_way CodeGood code_again length-code_out code_fed_lem 4 (λ s. (code_ended s).code) (λ s. (code_ended s).bytes) (coding_begun ks) code_ended (coded_with ks)
-    (λ m. (coded key m).code) (λ m. (coded key m).bytes) (code_start_good key o) c
-    (λ ms. ap (λ (r : CodeAnswer). r.code) (e ms)) (λ ms. ap (λ (r : CodeAnswer). r.bytes) (e ms))
+    lent_any_way code_form code_way CodeGood code_again length-code_out code_fed_lem 4 code_ended (coding_begun ks) code_ended (coded_with ks) (coded key) (code_start_good key o) c
+    (λ ms. c.answered ms ∙ code_key key (fitting 0 ms) h)
 
 -- Wish 5 over lent bytes, for the code
 pub code_lent : (key : List ℕ) → Octets key → length key ≡ 32
-    → LentAnyWay 53 (begun_number code_form (code_begun key).code) (begun_after code_form (code_begun key).code (code_begun key).state) (fed_number code_form code_way) (fed_after code_form code_way)
-    (λ b out. ended_number code_form 4 b out (code_ended (code_in b)).code)
-    (λ b out. ended_after code_form 4 b out (code_ended (code_in b)).code (code_ended (code_in b)).bytes) 4 (λ m. (coded key m).code) (λ m. (coded key m).bytes)
+    → LentAnyWay 53 (begun_number code_form (code_begun key)) (begun_after code_form (code_begun key)) (fed_number code_form code_way) (fed_after code_form code_way)
+    (λ b out. ended_number code_form 4 b out (code_ended (code_in b))) (λ b out. ended_after code_form 4 b out (code_ended (code_in b))) 4 (coded key)
 code_lent key o h =
     subst
-    (λ (r : CodeFed).
-    LentAnyWay 53 (begun_number code_form r.code) (begun_after code_form r.code r.state) (fed_number code_form code_way) (fed_after code_form code_way)
-    (λ b out. ended_number code_form 4 b out (code_ended (code_in b)).code)
-    (λ b out. ended_after code_form 4 b out (code_ended (code_in b)).code (code_ended (code_in b)).bytes) 4 (λ m. (coded key m).code) (λ m. (coded key m).bytes))
-    (sym (code_begun_lem key h)) (code_under key o h)
+    (λ (r : Result Coding Refusal).
+    LentAnyWay 53 (begun_number code_form r) (begun_after code_form r) (fed_number code_form code_way) (fed_after code_form code_way)
+    (λ b out. ended_number code_form 4 b out (code_ended (code_in b))) (λ b out. ended_after code_form 4 b out (code_ended (code_in b))) 4 (coded key))
+    (codeBegunFits key h) (code_under key o h)
 
 -- a key of another length is 1 at the beginning, and nothing is written
-pub mac_unbegun : (key b : List ℕ) → (length key ≡ 32 → ⊥) → begun_number mac_form (mac_begun key).code b ≡ 1
+pub mac_unbegun : (key b : List ℕ) → (length key ≡ 32 → ⊥) → begun_number mac_form (mac_begun key) b ≡ 1
 mac_unbegun key b h =
-    begins_by mac_form (mac_begun key).code b
+    begins_by mac_form (mac_begun key) b
     ∙ ap (λ (c : ℕ). cond (eqb (length b) 522) c 1) (mac_begins key ∙ ap (λ (r : Bool). cond r 0 1) (ne_eqb (length key) 32 h))
     ∙ either (eqb (length b) 522)
 
-pub code_unbegun : (key b : List ℕ) → (length key ≡ 32 → ⊥) → begun_number code_form (code_begun key).code b ≡ 1
+pub code_unbegun : (key b : List ℕ) → (length key ≡ 32 → ⊥) → begun_number code_form (code_begun key) b ≡ 1
 code_unbegun key b h =
-    begins_by code_form (code_begun key).code b
+    begins_by code_form (code_begun key) b
     ∙ ap (λ (c : ℕ). cond (eqb (length b) 53) c 1) (code_begins key ∙ ap (λ (r : Bool). cond r 0 1) (ne_eqb (length key) 32 h))
     ∙ either (eqb (length b) 53)

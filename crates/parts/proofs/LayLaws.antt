@@ -5,16 +5,14 @@ use Prim.Native.Nat.{ℕ, zero, suc, ◌+◌, ◌-◌, ◌*◌, ◌%◌, ◌<◌
 use native.Mathlib.Omega.{arith}
 use native.Mathlib.Numerals.{add-one}
 use native.Mathlib.Nat.{not-suc-le-zero, le_of_suc-le-suc}
+use Rattle.std.specs.Int.{w32, from_le_bytes}
 use lib.ListN.{length, take, drop, get_or, length-append, length-drop}
 use lib.Seq.{paste, take_all, length-take-le, take-paste, drop-paste, drop-drop}
 use Rattle.octets.specs.Numbers.{le, le_octets}
-use Rattle.octets.proofs.Parts.{made_end}
+use Rattle.octets.proofs.Parts.{made_end, elements, elements_all}
 use Rattle.octets.proofs.NumberLaws.{length-le_octets}
 use Rattle.lps.specs.Vectors.{words, bytes}
 use Rattle.lps.proofs.Bytes.{length-bytes}
-use Rattle.octets.specs.Lengths.{key_fits}
-use Rattle.derive.specs.Answers.{key_of}
-use borrow.Author.Tests.{eq-eqb}
 use Rattle.gost.proofs.Octets.{length-block}
 use Rattle.gost.specs.Gost.{subkeys, halves, block}
 use Rattle.gost.specs.declared.Halves.{Halves}
@@ -47,6 +45,16 @@ laid_length b {b1} x p n e h = h ∙ ap (paste b p x) e
 -- all of b
 pub laid_all : (b : List ℕ) {b1 : List ℕ} (x : List ℕ) (n : ℕ) → length b ≡ n → length x ≡ n → b1 ≡ paste b 0 x n → b1 ≡ x
 laid_all b {b1} x n hb hx e = e ∙ made_end b x n hb hx
+
+-- the word that std reads of four bytes
+four : (a b c d : ℕ) → from_le_bytes w32 (a ∷ b ∷ c ∷ d ∷ []) ≡ le (a ∷ b ∷ c ∷ d ∷ [])
+unfolding le
+four a b c d = omega arith
+
+pub word_read : (s : List ℕ) → length s ≡ 4 → from_le_bytes w32 s ≡ le s
+word_read s n =
+    let e : s ≡ elements s 0 0 4 = elements_all s 4 n in
+    ap (from_le_bytes w32) e ∙ four (get_or s 0 0) (get_or s 1 0) (get_or s 2 0) (get_or s 3 0) ∙ ap le (sym e)
 
 -- what a hash is read from
 pub hash_read : (b : List ℕ) {x y z h n s buffer : List ℕ} {fill total : ℕ}
@@ -202,28 +210,18 @@ code_laid b s {b1} {b2} {b3} {b4} h k n e1 e2 e3 e4 =
     ∙ append_assoc x y (s.buffer ++ t)
 
 -- what a code is read from
-pub code_read : (b : List ℕ) {key ks buffer : List ℕ} {n1 n2 fill total : ℕ} → length b ≡ 53
-    → n1 ≡ le (take 4 (drop 32 b)) → n2 ≡ le (take 4 (drop 36 b)) → key ≡ key_of (take 32 b) → ks ≡ subkeys 8 key → buffer ≡ take 8 (drop 40 b)
+pub code_read : (b : List ℕ) {key ks buffer : List ℕ} {n1 n2 fill total : ℕ} → n1 ≡ le (take 4 (drop 32 b))
+    → n2 ≡ le (take 4 (drop 36 b)) → key ≡ take 32 b → ks ≡ subkeys 8 key → buffer ≡ take 8 (drop 40 b)
     → fill ≡ get_or b 48 0 → total ≡ le (take 4 (drop 49 b))
     → ◌≡◌ {A = Coding} (record { subkeys = ks; halves = record { n1 = n1; n2 = n2 }; buffer = buffer; fill = fill; total = total }) (code_in b)
-unfolding code_in halves key_of key_fits
-code_read b {key} {ks} {buffer} {n1} {n2} h x y k ek f g t =
-    let l : length (take 32 b) ≡ 32 = length-take-le 32 b (omega arith) in
-    let e : key ≡ take 32 b = k ∙ simp (eq-eqb (length (take 32 b)) 32 l) in
+unfolding code_in halves
+code_read b {key} {ks} {buffer} {n1} {n2} x y k ek f g t =
     let d : n2 ≡ le (take 4 (drop 4 (drop 32 b))) = y ∙ ap (λ (u : List ℕ). le (take 4 u)) (sym (drop-drop 4 32 b)) in
     λ i.
     record {
-      subkeys = (ek ∙ ap (subkeys 8) e) i;
+      subkeys = (ek ∙ ap (subkeys 8) k) i;
       halves = record { n1 = x i; n2 = d i };
       buffer = f i;
       fill = g i;
       total = t i;
     }
-
--- what is read into an array of zeros
-pub read_array : (b d : List ℕ) (n m p : ℕ) {r x : List ℕ} → length d ≡ n → m ≡ n → p + n ≤ length b → x ≡ take m (drop p b) → r ≡ paste d 0 x (length x) → r ≡ take n (drop p b)
-read_array b d n m p {r} {x} hd hm h e1 e2 =
-    let l : length (drop p b) ≡ length b - p = length-drop p b in
-    let e : x ≡ take n (drop p b) = e1 ∙ ap (λ (j : ℕ). take j (drop p b)) hm in
-    let k : length x ≡ n = ap length e ∙ length-take-le n (drop p b) (omega arith) in
-    e2 ∙ ap (paste d 0 x) k ∙ made_end d x n hd k ∙ e

@@ -1,126 +1,125 @@
 -- The ways out of the functions over lent states, over any form and way. Assumes nothing.
 use mathlib.Core.Path.{◌≡◌, refl, sym, ap, ◌∙◌}
 use mathlib.Core.Bool.{Bool, true, false, cond}
+use mathlib.Core.Logic.{◌⊎◌, inl, inr}
 use mathlib.Core.List.{List}
 use Prim.Native.Nat.{ℕ}
-use native.Mathlib.Omega.{arith}
 use borrow.Author.Tests.{eq-eqb, ne_eqb}
 use lib.ListN.{length}
-use Rattle.blocks.specs.Parts.{Way, fits, part_number, after}
+use Rattle.std.specs.Prelude.{Result, Ok, Err}
+use Rattle.std.specs.Result.{IsErrAnd, result_unwrap_or}
+use Rattle.std.proofs.lemmas.Result.{err_from_is_err_and}
+use Rattle.answers.specs.declared.Refusal.{Refusal}
+use Rattle.answers.specs.declared.Refusal.TheVariants.{Input}
+use Rattle.answers.specs.Answers.{number_told}
+use Rattle.blocks.specs.Parts.{Way, fits, part_number, counted, after}
 use Rattle.hash.specs.declared.State.{State}
-use Rattle.hash.specs.declared.Fed.{Fed}
 use Rattle.hash.specs.States.{hash_way, fed}
 use Rattle.derive.specs.declared.Started.{Started}
-use Rattle.derive.specs.declared.MacFed.{MacFed}
 use Rattle.derive.specs.Macing.{mac_way, mac_fed}
 use Rattle.cipher.specs.declared.Coding.{Coding}
-use Rattle.cipher.specs.declared.CodeFed.{CodeFed}
 use Rattle.cipher.specs.Coding.{code_way, code_fed}
 use Rattle.parts.specs.Forms.{Form}
-use Rattle.parts.specs.Lent.{lent_fits, begun_number, begun_after, fed_number, fed_after, ended_number, ended_after}
+use Rattle.parts.specs.Lent.{part_answer, lent_fits, written, begun_number, begun_after, fed_number, fed_after, ended_number, ended_after}
 
--- a part that is answered by 0 fits, and no other does
-number_fits : (n : ℕ) (m : List ℕ) → part_number n m ≡ 0 → fits n (length m) ≡ true
-unfolding part_number
-number_fits n m = by (fits n (length m))
-  where
-    by : (r : Bool) → ◌≡◌ {A = ℕ} (cond r 0 1) 0 → r ≡ true
-    by true e = refl
-    by false e = absurd (omega arith)
-
-number_not : (n : ℕ) (m : List ℕ) → (part_number n m ≡ 0 → ⊥) → fits n (length m) ≡ false
-unfolding part_number
-number_not n m = by (fits n (length m))
-  where
-    by : (r : Bool) → (◌≡◌ {A = ℕ} (cond r 0 1) 0 → ⊥) → r ≡ false
-    by true e = absurd (e refl)
-    by false e = refl
+-- the refusal that the caller's `?` hands on
+handed : {S T : Type 0} (q : Refusal) {k r : Result S Refusal} (s : Result T Refusal) → k ≡ r → k ≡ Err q → IsErrAnd s (λ e. e ≡ q) → (r ≡ Err q) × (s ≡ Err q)
+handed q s e i h = let p = err_from_is_err_and s h in (sym e ∙ i, p.1 ∙ ap Err p.2)
 
 module _ {S : Type 0} (f : Form S) where
-  pub begun_length : (c : ℕ) (s : S) (b : List ℕ) → (length b ≡ f.size → ⊥) → (1 ≡ begun_number f c b) × (b ≡ begun_after f c s b)
+  pub begun_length : (r : Result S Refusal) (b : List ℕ) → (length b ≡ f.size → ⊥) → (1 ≡ begun_number f r b) × (b ≡ begun_after f r b)
   unfolding begun_number begun_after lent_fits
-  begun_length c s b h = (simp (ne_eqb (length b) f.size h), simp (ne_eqb (length b) f.size h))
+  begun_length r b h = (simp (ne_eqb (length b) f.size h), simp (ne_eqb (length b) f.size h))
 
-  pub begun_key : {n c : ℕ} (s : S) (b : List ℕ) → length b ≡ f.size → n ≡ c → (n ≡ 0 → ⊥) → (n ≡ begun_number f c b) × (b ≡ begun_after f c s b)
+  pub begun_key : {T : Type 0} (q : Refusal) {k : Result S Refusal} (r : Result S Refusal) (s : Result T Refusal) (b : List ℕ) → length b ≡ f.size → k ≡ r
+      → k ≡ Err q → IsErrAnd s (λ e. e ≡ q) → (number_told s ≡ begun_number f r b) × (b ≡ begun_after f r b)
   unfolding begun_number begun_after lent_fits
-  begun_key {n} {c} s b h e z =
-      let z' : c ≡ 0 → ⊥ = λ p. z (e ∙ p) in
-      (e ∙ simp (eq-eqb (length b) f.size h), simp (eq-eqb (length b) f.size h, ne_eqb c 0 z'))
+  begun_key q r s b h e i j =
+      let p = handed q s e i j in (
+        ap number_told p.1 ∙ sym (ap number_told p.0) ∙ simp (eq-eqb (length b) f.size h),
+        sym (ap (λ (x : Result S Refusal). written f x b) p.0) ∙ simp (eq-eqb (length b) f.size h),
+      )
 
-  pub begun_done : (b : List ℕ) {n c : ℕ} {s t : S} {b1 : List ℕ} → length b ≡ f.size → n ≡ c → n ≡ 0 → t ≡ s → b1 ≡ f.out t → (0 ≡ begun_number f c b) × (b1 ≡ begun_after f c s b)
+  pub begun_done : {k : Result S Refusal} (r : Result S Refusal) (x : S) (b : List ℕ) {b1 : List ℕ} → length b ≡ f.size → k ≡ r → k ≡ Ok x → b1 ≡ f.out x
+      → (0 ≡ begun_number f r b) × (b1 ≡ begun_after f r b)
   unfolding begun_number begun_after lent_fits
-  begun_done b {n} {c} {s} {t} {b1} h e z i o =
-      let z' : c ≡ 0 = sym e ∙ z in
-      (sym z' ∙ simp (eq-eqb (length b) f.size h), o ∙ ap f.out i ∙ simp (eq-eqb (length b) f.size h, eq-eqb c 0 z'))
+  begun_done r x b h e i o =
+      let p : r ≡ Ok x = sym e ∙ i in (
+        sym (ap number_told p) ∙ simp (eq-eqb (length b) f.size h),
+        o ∙ sym (ap (λ (y : Result S Refusal). written f y b) p) ∙ simp (eq-eqb (length b) f.size h),
+      )
 
   module _ {A : Type 0} (w : Way S A) where
     pub fed_length : (b m : List ℕ) → (length b ≡ f.size → ⊥) → (1 ≡ fed_number f w b m) × (b ≡ fed_after f w b m)
     unfolding fed_number fed_after lent_fits
     fed_length b m h = (simp (ne_eqb (length b) f.size h), simp (ne_eqb (length b) f.size h))
 
-    pub fed_not : {n : ℕ} (b m : List ℕ) → length b ≡ f.size → n ≡ part_number (w.total (f.into b)) m → (n ≡ 0 → ⊥)
-        → (n ≡ fed_number f w b m) × (b ≡ fed_after f w b m)
-    unfolding fed_number fed_after lent_fits
-    fed_not {n} b m h e z =
-        let q = number_not (w.total (f.into b)) m (λ p. z (e ∙ p)) in
-        (e ∙ simp (eq-eqb (length b) f.size h), simp (eq-eqb (length b) f.size h, q))
+    pub fed_not : {T : Type 0} (q : Refusal) {k : Result S Refusal} (s : Result T Refusal) (b m : List ℕ) → length b ≡ f.size → k ≡ part_answer w (f.into b) m
+        → k ≡ Err q → IsErrAnd s (λ e. e ≡ q) → (number_told s ≡ fed_number f w b m) × (b ≡ fed_after f w b m)
+    unfolding fed_number fed_after lent_fits part_number
+    fed_not {T} q {k} s b m h e i j = go (fits (w.total (f.into b)) (length m)) refl p.0
+      where
+        p : (part_answer w (f.into b) m ≡ Err q) × (s ≡ Err q)
+        p = handed q s e i j
 
-    pub fed_done : (b m : List ℕ) {n : ℕ} {t : S} {b1 : List ℕ} → length b ≡ f.size → n ≡ part_number (w.total (f.into b)) m → n ≡ 0
-        → t ≡ after w (f.into b) m → b1 ≡ f.out t → (0 ≡ fed_number f w b m) × (b1 ≡ fed_after f w b m)
-    unfolding fed_number fed_after lent_fits
-    fed_done b m {n} {t} {b1} h e z i o =
-        let q = number_fits (w.total (f.into b)) m (sym e ∙ z) in
-        (sym z ∙ e ∙ simp (eq-eqb (length b) f.size h), o ∙ ap f.out i ∙ simp (eq-eqb (length b) f.size h, q))
+        go : (t : Bool) → fits (w.total (f.into b)) (length m) ≡ t → cond {A = Result S Refusal} t (Ok (counted w (f.into b) m)) (Err Input) ≡ Err q
+            → (number_told s ≡ fed_number f w b m) × (b ≡ fed_after f w b m)
+        go true u v = absurd cc
+        go false u v =
+            let n : q ≡ Input = cc in (
+              ap number_told (p.1 ∙ ap Err n) ∙ simp (eq-eqb (length b) f.size h, u),
+              simp (eq-eqb (length b) f.size h, u),
+            )
+
+    pub fed_done : {k : Result S Refusal} (x : S) (b m : List ℕ) {b1 : List ℕ} → length b ≡ f.size → k ≡ part_answer w (f.into b) m → k ≡ Ok x → b1 ≡ f.out x
+        → (0 ≡ fed_number f w b m) × (b1 ≡ fed_after f w b m)
+    unfolding fed_number fed_after lent_fits part_number after
+    fed_done {k} x b m {b1} h e i o = go (fits (w.total (f.into b)) (length m)) refl (sym e ∙ i)
+      where
+        go : (t : Bool) → fits (w.total (f.into b)) (length m) ≡ t → cond {A = Result S Refusal} t (Ok (counted w (f.into b) m)) (Err Input) ≡ Ok x
+            → (0 ≡ fed_number f w b m) × (b1 ≡ fed_after f w b m)
+        go false u v = absurd cc
+        go true u v =
+            let n : x ≡ counted w (f.into b) m = cc in (
+              simp (eq-eqb (length b) f.size h, u),
+              o ∙ ap f.out n ∙ simp (eq-eqb (length b) f.size h, u),
+            )
 
   module _ (n : ℕ) where
-    pub ended_length : (b out : List ℕ) (c : ℕ) (x : List ℕ) → (length b ≡ f.size → ⊥) → (1 ≡ ended_number f n b out c) × (out ≡ ended_after f n b out c x)
+    pub ended_lent : (b out : List ℕ) (r : Result (List ℕ) Refusal) → (length b ≡ f.size → ⊥) ⊎ ((length b ≡ f.size) × (length out ≡ n → ⊥))
+        → (1 ≡ ended_number f n b out r) × (out ≡ ended_after f n b out r)
     unfolding ended_number ended_after lent_fits
-    ended_length b out c x h = (simp (ne_eqb (length b) f.size h), simp (ne_eqb (length b) f.size h))
+    ended_lent b out r (inl h) = (simp (ne_eqb (length b) f.size h), simp (ne_eqb (length b) f.size h))
+    ended_lent b out r (inr o) =
+        (simp (eq-eqb (length b) f.size o.0, ne_eqb (length out) n o.1), simp (eq-eqb (length b) f.size o.0, ne_eqb (length out) n o.1))
 
-    pub ended_out : (b out : List ℕ) (c : ℕ) (x : List ℕ) → length b ≡ f.size → (length out ≡ n → ⊥) → (1 ≡ ended_number f n b out c) × (out ≡ ended_after f n b out c x)
+    pub ended_not : {T : Type 0} (q : Refusal) {k : Result (List ℕ) Refusal} (r : Result (List ℕ) Refusal) (s : Result T Refusal) (b out : List ℕ)
+        → length b ≡ f.size → length out ≡ n → k ≡ r → k ≡ Err q → IsErrAnd s (λ e. e ≡ q) → (number_told s ≡ ended_number f n b out r) × (out ≡ ended_after f n b out r)
     unfolding ended_number ended_after lent_fits
-    ended_out b out c x h o =
-        (simp (eq-eqb (length b) f.size h, ne_eqb (length out) n o), simp (eq-eqb (length b) f.size h, ne_eqb (length out) n o))
-
-    pub ended_not : {k c : ℕ} (b out : List ℕ) (x : List ℕ) → length b ≡ f.size → length out ≡ n → k ≡ c → (k ≡ 0 → ⊥)
-        → (k ≡ ended_number f n b out c) × (out ≡ ended_after f n b out c x)
-    unfolding ended_number ended_after lent_fits
-    ended_not {k} {c} b out x h o e z =
-        let z' : c ≡ 0 → ⊥ = λ p. z (e ∙ p) in (
-          e ∙ simp (eq-eqb (length b) f.size h, eq-eqb (length out) n o),
-          simp (eq-eqb (length b) f.size h, eq-eqb (length out) n o, ne_eqb c 0 z'),
+    ended_not q r s b out h o e i j =
+        let p = handed q s e i j in (
+          ap number_told p.1 ∙ sym (ap number_told p.0) ∙ simp (eq-eqb (length b) f.size h, eq-eqb (length out) n o),
+          sym (ap (λ (x : Result (List ℕ) Refusal). result_unwrap_or x out) p.0) ∙ simp (eq-eqb (length b) f.size h, eq-eqb (length out) n o),
         )
 
-    pub ended_done : (b out : List ℕ) {k c : ℕ} {x y out1 : List ℕ} → length b ≡ f.size → length out ≡ n → k ≡ c → k ≡ 0 → y ≡ x → out1 ≡ y
-        → (0 ≡ ended_number f n b out c) × (out1 ≡ ended_after f n b out c x)
+    pub ended_done : {k : Result (List ℕ) Refusal} (r : Result (List ℕ) Refusal) (x b out : List ℕ) {out1 : List ℕ} → length b ≡ f.size → length out ≡ n → k ≡ r → k ≡ Ok x
+        → out1 ≡ x → (0 ≡ ended_number f n b out r) × (out1 ≡ ended_after f n b out r)
     unfolding ended_number ended_after lent_fits
-    ended_done b out {k} {c} {x} {y} {out1} h o e z i j =
-        let z' : c ≡ 0 = sym e ∙ z in (
-          sym z' ∙ simp (eq-eqb (length b) f.size h, eq-eqb (length out) n o),
-          j ∙ i ∙ simp (eq-eqb (length b) f.size h, eq-eqb (length out) n o, eq-eqb c 0 z'),
+    ended_done r x b out h o e i j =
+        let p : r ≡ Ok x = sym e ∙ i in (
+          sym (ap number_told p) ∙ simp (eq-eqb (length b) f.size h, eq-eqb (length out) n o),
+          j ∙ sym (ap (λ (y : Result (List ℕ) Refusal). result_unwrap_or y out) p) ∙ simp (eq-eqb (length b) f.size h, eq-eqb (length out) n o),
         )
 
 -- what feeding a state t that was read as u answers, for each of the three
-pub hash_number : {t : State} {r : Fed} (u : State) (m : List ℕ) → t ≡ u → r ≡ fed t m → r.code ≡ part_number u.total m
+pub hash_answer : {t : State} {r : Result State Refusal} (u : State) (m : List ℕ) → t ≡ u → r ≡ fed t m → r ≡ part_answer hash_way u m
 unfolding fed
-hash_number u m e f = ap (λ (x : Fed). x.code) f ∙ ap (λ (x : State). part_number x.total m) e
+hash_answer u m e f = f ∙ ap (λ (x : State). part_answer hash_way x m) e
 
-pub hash_after : {t : State} {r : Fed} (u : State) (m : List ℕ) → t ≡ u → r ≡ fed t m → r.state ≡ after hash_way u m
-unfolding fed
-hash_after u m e f = ap (λ (x : Fed). x.state) f ∙ ap (λ (x : State). after hash_way x m) e
-
-pub mac_number : {t : Started} {r : MacFed} (u : Started) (m : List ℕ) → t ≡ u → r ≡ mac_fed t m → r.code ≡ part_number u.inner.total m
+pub mac_answer : {t : Started} {r : Result Started Refusal} (u : Started) (m : List ℕ) → t ≡ u → r ≡ mac_fed t m → r ≡ part_answer mac_way u m
 unfolding mac_fed
-mac_number u m e f = ap (λ (x : MacFed). x.code) f ∙ ap (λ (x : Started). part_number x.inner.total m) e
+mac_answer u m e f = f ∙ ap (λ (x : Started). part_answer mac_way x m) e
 
-pub mac_after : {t : Started} {r : MacFed} (u : Started) (m : List ℕ) → t ≡ u → r ≡ mac_fed t m → r.state ≡ after mac_way u m
-unfolding mac_fed
-mac_after u m e f = ap (λ (x : MacFed). x.state) f ∙ ap (λ (x : Started). after mac_way x m) e
-
-pub code_number : {t : Coding} {r : CodeFed} (u : Coding) (m : List ℕ) → t ≡ u → r ≡ code_fed t m → r.code ≡ part_number u.total m
+pub code_answer : {t : Coding} {r : Result Coding Refusal} (u : Coding) (m : List ℕ) → t ≡ u → r ≡ code_fed t m → r ≡ part_answer code_way u m
 unfolding code_fed
-code_number u m e f = ap (λ (x : CodeFed). x.code) f ∙ ap (λ (x : Coding). part_number x.total m) e
-
-pub code_after : {t : Coding} {r : CodeFed} (u : Coding) (m : List ℕ) → t ≡ u → r ≡ code_fed t m → r.state ≡ after code_way u m
-unfolding code_fed
-code_after u m e f = ap (λ (x : CodeFed). x.state) f ∙ ap (λ (x : Coding). after code_way x m) e
+code_answer u m e f = f ∙ ap (λ (x : Coding). part_answer code_way x m) e

@@ -1,8 +1,11 @@
 -- A message in parts over a state that the caller lends (Wish 5): it is cut any way. Assumes nothing.
-use Rattle.std.specs.Prelude.{◌≡◌, cond, List, [], ◌∷◌, ℕ, ◌+◌, eqb, leb, length}
+use Rattle.std.specs.Prelude.{◌≡◌, cond, List, [], ◌∷◌, ℕ, ◌+◌, eqb, leb, length, Result}
+use Rattle.std.specs.Result.{result_unwrap_or}
 use Rattle.octets.specs.Numbers.{Octets}
+use Rattle.answers.specs.declared.Refusal.{Refusal}
 use Rattle.answers.specs.declared.Refusal.TheVariants.{Input}
 use Rattle.answers.specs.Refusals.{number}
+use Rattle.answers.specs.Answers.{number_told}
 use Rattle.blocks.specs.Parts.{fitting, after_all}
 
 -- parts of octets, as every part that is lent is
@@ -16,12 +19,12 @@ pub data Strings : List (List ℕ) → Type 0 where
 -- answer to the bytes that fit, at once. Where the same bytes were taken, the lent bytes are the same. And for any bytes at all: a beginning, a part or an end
 -- over another length is 1; where a beginning or a part is refused the state stays, where an end is refused the slice stays
 pub record LentAnyWay (size : ℕ) (beginNumber : List ℕ → ℕ) (begun : List ℕ → List ℕ) (number_of : List ℕ → List ℕ → ℕ) (next : List ℕ → List ℕ → List ℕ) (end_number : List ℕ → List ℕ → ℕ)
-    (end_after : List ℕ → List ℕ → List ℕ) (room : ℕ) (number_for : List ℕ → ℕ) (octets : List ℕ → List ℕ) : Type 0 where
+    (end_after : List ℕ → List ℕ → List ℕ) (room : ℕ) (answer : List ℕ → Result (List ℕ) Refusal) : Type 0 where
   pub numbered : (b : List ℕ) (ms : List (List ℕ)) (m : List ℕ) → length b ≡ size → Strings ms
       → number_of (after_all next (begun b) ms) m ≡ cond (leb (length (fitting 0 ms) + length m) 4294967295) 0 (number Input)
   pub ended : (b : List ℕ) (ms : List (List ℕ)) (out : List ℕ) → length b ≡ size → Strings ms → length out ≡ room
-      → (end_number (after_all next (begun b) ms) out ≡ number_for (fitting 0 ms))
-      × (end_after (after_all next (begun b) ms) out ≡ cond (eqb (number_for (fitting 0 ms)) 0) (octets (fitting 0 ms)) out)
+      → (end_number (after_all next (begun b) ms) out ≡ number_told (answer (fitting 0 ms)))
+      × (end_after (after_all next (begun b) ms) out ≡ result_unwrap_or (answer (fitting 0 ms)) out)
   pub same : (b : List ℕ) (ms ns : List (List ℕ)) → length b ≡ size → Strings ms → Strings ns → fitting 0 ms ≡ fitting 0 ns
       → after_all next (begun b) ms ≡ after_all next (begun b) ns
   pub begins : (b : List ℕ) → beginNumber b ≡ cond (eqb (length b) size) 0 1

@@ -2,16 +2,19 @@
 // state or answer of another length is 1, and a refusal leaves both as they were.
 #![tactic(auto)]
 
-ghost use Rattle.std.specs.Prelude.{◌≡◌, ◌∷◌, ◌++◌, ◌+◌, ◌%◌, ◌<◌, ◌≤◌, length, take, drop, get_or};
+ghost use Rattle.std.specs.Prelude.{◌≡◌, ℕ, List, ◌∷◌, ◌++◌, ◌+◌, ◌%◌, ◌<◌, ◌≤◌, length, take, drop, get_or, Result, Ok};
 ghost use Rattle.std.proofs.Math.Seq.{paste};
+ghost use Rattle.answers.specs.Answers.{number_told};
 ghost use Rattle.octets.specs.Numbers.{le, le_octets};
 ghost use Rattle.lps.specs.Vectors.{bytes};
 ghost use Rattle.gost.specs.Gost.{block};
 ghost use Rattle.hash.specs.States.{hash_way, begun, ended};
 ghost use Rattle.derive.specs.Macing.{mac_way, mac_begun, mac_ended};
 ghost use Rattle.cipher.specs.Coding.{code_way, code_begun, code_ended};
-ghost use Rattle.parts.specs.Forms.{hash_in, hash_out, hash_form, mac_in, mac_out, mac_form, octets_of, code_in, code_out, code_form};
-ghost use Rattle.parts.specs.Lent.{begun_number, begun_after, fed_number, fed_after, ended_number, ended_after};
+ghost use Rattle.answers.specs.declared.Refusal.{Refusal};
+ghost use Rattle.blocks.specs.Parts.{Way};
+ghost use Rattle.parts.specs.Forms.{Form, hash_in, hash_out, hash_form, mac_in, mac_out, mac_form, octets_of, code_in, code_out, code_form};
+ghost use Rattle.parts.specs.Lent.{part_answer, begun_number, begun_after, fed_number, fed_after, ended_number, ended_after};
 
 use answers::Refusal;
 use cipher::{Coding, Halves};
@@ -25,25 +28,87 @@ pub const HMAC_STATE: usize = 522;
 
 pub const CODE_STATE: usize = 53;
 
+// A message under way whose state a caller lends as bytes: how many they are, the state that they are, and the bytes of a state; how a part is taken,
+// and what its end answers.
+pub trait UnderWay<const N: usize>: Copy {
+    type Made;
+
+    ghost form: { Form Self };
+
+    ghost way: { Way Self Self.Made };
+
+    ghost ended: { Self → Result (List ℕ) Refusal };
+
+    fn size() -> usize
+        ensures { result ≡ form.size };
+
+    fn read(lent: &[u8]) -> Self
+        requires { length lent.now ≡ form.size }
+        ensures { result ≡ form.into lent.now };
+
+    fn write(self, lent: &mut [u8])
+        requires { length lent.old ≡ form.size }
+        ensures { lent.new ≡ form.out self };
+
+    fn fed(self, part: &[u8]) -> Result<Self, Refusal>
+        ensures { result ≡ part_answer way self part.now };
+
+    fn end(self) -> Result<[u8; N], Refusal>
+        ensures { result ≡ ended self };
+}
+
+// A state begun, or why its key is refused, written as a lent state. 1: the state's length.
+pub fn begin<const N: usize, S: UnderWay<N>>(
+    begun: Result<S, Refusal>,
+    state: &mut [u8],
+) -> Result<(), Refusal>
+    ensures { (number_told result ≡ begun_number S.form begun state.old) × (state.new ≡ begun_after S.form begun state.old) }
+{
+    if state.len() != S::size() {
+        return Err(Refusal::Input);
+    }
+    begun?.write(state);
+    Ok(())
+}
+
+// A lent state fed. 1: the state's length, or the total.
+pub fn feed<const N: usize, S: UnderWay<N>>(state: &mut [u8], part: &[u8]) -> Result<(), Refusal>
+    ensures { (number_told result ≡ fed_number S.form S.way state.old part.now) × (state.new ≡ fed_after S.form S.way state.old part.now) }
+{
+    if state.len() != S::size() {
+        return Err(Refusal::Input);
+    }
+    S::read(state).fed(part)?.write(state);
+    Ok(())
+}
+
+// A lent state ended. 1: a length; and what its end is refused for.
+pub fn end<const N: usize, S: UnderWay<N>>(state: &[u8], out: &mut [u8]) -> Result<(), Refusal>
+    ensures { (number_told result ≡ ended_number S.form N state.now out.old (S.ended (S.form.into state.now)))
+        × (out.new ≡ ended_after S.form N state.now out.old (S.ended (S.form.into state.now))) }
+{
+    if state.len() != S::size() || out.len() != N {
+        return Err(Refusal::Input);
+    }
+    out.copy_from_slice(&S::read(state).end()?);
+    Ok(())
+}
+
 // The bytes w, written from p on.
 fn lay(b: &mut [u8], p: usize, w: &[u8])
     requires { p + length w.now ≤ length b.old }
     ensures { b.new ≡ paste b.old p w.now (length w.now) }
 {
-    let mut i = 0;
-    while i < w.len() {
-        b[p + i] = w[i];
-        i += 1;
-    }
+    b[p..p + w.len()].copy_from_slice(w);
 }
 
-// The 64 bytes from p on.
-fn block_at(b: &[u8], p: usize) -> [u8; 64]
-    requires { p + 64 ≤ length b.now }
-    ensures { result ≡ take 64 (drop p b.now) }
+// The N bytes from p on.
+fn bytes_at<const N: usize>(b: &[u8], p: usize) -> [u8; N]
+    requires { p + N ≤ length b.now }
+    ensures { result ≡ take N (drop p b.now) }
 {
-    let mut r = [0; 64];
-    lay(&mut r, 0, &b[p..p + 64]);
+    let mut r = [0; N];
+    r.copy_from_slice(&b[p..p + N]);
     r
 }
 
@@ -52,7 +117,7 @@ fn word_at(b: &[u8], p: usize) -> u32
     requires { p + 4 ≤ length b.now }
     ensures { result ≡ le (take 4 (drop p b.now)) }
 {
-    octets::word(b[p], b[p + 1], b[p + 2], b[p + 3])
+    u32::from_le_bytes(bytes_at(b, p))
 }
 
 // Byte p, as a number of bytes.
@@ -79,13 +144,13 @@ fn hash_in(b: &[u8]) -> State
     ensures { result ≡ hash_in b.now }
 {
     let core = Core {
-        h: hash::words_of(block_at(b, 0)),
-        n: hash::words_of(block_at(b, 64)),
-        sigma: hash::words_of(block_at(b, 128)),
+        h: hash::words_of(bytes_at(b, 0)),
+        n: hash::words_of(bytes_at(b, 64)),
+        sigma: hash::words_of(bytes_at(b, 128)),
     };
     State {
         core,
-        buffer: block_at(b, 192),
+        buffer: bytes_at(b, 192),
         fill: fill_at(b, 256),
         total: word_at(b, 257),
     }
@@ -96,12 +161,9 @@ fn lay_core(b: &mut [u8], p: usize, c: Core)
     requires { p + 192 ≤ length b.old }
     ensures { b.new ≡ paste b.old p (bytes c.h ++ (bytes c.n ++ bytes c.sigma)) 192 }
 {
-    let h = c.h;
-    let n = c.n;
-    let sigma = c.sigma;
-    lay(b, p, &hash::bytes_of(h));
-    lay(b, p + 64, &hash::bytes_of(n));
-    lay(b, p + 128, &hash::bytes_of(sigma));
+    lay(b, p, &hash::bytes_of(c.h));
+    lay(b, p + 64, &hash::bytes_of(c.n));
+    lay(b, p + 128, &hash::bytes_of(c.sigma));
 }
 
 // A hash, written as a lent state from p on.
@@ -109,10 +171,8 @@ fn lay_hash(b: &mut [u8], p: usize, s: State)
     requires { p + 261 ≤ length b.old }
     ensures { b.new ≡ paste b.old p (hash_out s) 261 }
 {
-    let core = s.core;
-    let buffer = s.buffer;
-    lay_core(b, p, core);
-    lay(b, p + 192, &buffer);
+    lay_core(b, p, s.core);
+    lay(b, p + 192, &s.buffer);
     lay_end(b, p + 256, s.fill, s.total);
 }
 
@@ -124,46 +184,58 @@ fn hash_out(s: State, b: &mut [u8])
     lay_hash(b, 0, s);
 }
 
-// A hash begun. 1: the state's length.
-pub fn hash_begin(state: &mut [u8]) -> u8
-    ensures { (result ≡ begun_number hash_form 0 state.old) × (state.new ≡ begun_after hash_form 0 begun state.old) }
-{
-    if state.len() != HASH_STATE {
-        return Refusal::INPUT;
+impl UnderWay<32> for State {
+    type Made = Core;
+
+    ghost form = { hash_form };
+
+    ghost way = { hash_way };
+
+    ghost ended = { λ s. Ok (ended s) };
+
+    fn size() -> usize {
+        HASH_STATE
     }
-    hash_out(hash::begin(), state);
-    0
+
+    fn read(lent: &[u8]) -> State {
+        hash_in(lent)
+    }
+
+    fn write(self, lent: &mut [u8]) {
+        hash_out(self, lent);
+    }
+
+    fn fed(self, part: &[u8]) -> Result<State, Refusal> {
+        hash::feed(self, part)
+    }
+
+    fn end(self) -> Result<[u8; 32], Refusal> {
+        Ok(hash::end(self))
+    }
+}
+
+// A hash begun. 1: the state's length.
+pub fn hash_begin(state: &mut [u8]) -> Result<(), Refusal>
+    ensures { (number_told result ≡ begun_number hash_form (Ok begun) state.old)
+        × (state.new ≡ begun_after hash_form (Ok begun) state.old) }
+{
+    begin(Ok(hash::begin()), state)
 }
 
 // A hash fed. 1: the state's length, or the total.
-pub fn hash_feed(state: &mut [u8], part: &[u8]) -> u8
-    ensures { (result ≡ fed_number hash_form hash_way state.old part.now)
+pub fn hash_feed(state: &mut [u8], part: &[u8]) -> Result<(), Refusal>
+    ensures { (number_told result ≡ fed_number hash_form hash_way state.old part.now)
         × (state.new ≡ fed_after hash_form hash_way state.old part.now) }
 {
-    if state.len() != HASH_STATE {
-        return Refusal::INPUT;
-    }
-    let f = hash::feed(hash_in(state), part);
-    if f.code != 0 {
-        return f.code;
-    }
-    hash_out(f.state, state);
-    0
+    feed::<32, State>(state, part)
 }
 
 // A hash ended. 1: a length.
-pub fn hash_end(state: &[u8], out: &mut [u8]) -> u8
-    ensures { (result ≡ ended_number hash_form 32 state.now out.old 0)
-        × (out.new ≡ ended_after hash_form 32 state.now out.old 0 (ended (hash_in state.now))) }
+pub fn hash_end(state: &[u8], out: &mut [u8]) -> Result<(), Refusal>
+    ensures { (number_told result ≡ ended_number hash_form 32 state.now out.old (Ok (ended (hash_in state.now))))
+        × (out.new ≡ ended_after hash_form 32 state.now out.old (Ok (ended (hash_in state.now)))) }
 {
-    if state.len() != HASH_STATE {
-        return Refusal::INPUT;
-    }
-    if out.len() != 32 {
-        return Refusal::INPUT;
-    }
-    lay(out, 0, &hash::end(hash_in(state)));
-    0
+    end::<32, State>(state, out)
 }
 
 // The HMAC that a lent state is.
@@ -171,9 +243,10 @@ fn mac_in(b: &[u8]) -> Started
     requires { length b.now ≡ 522 }
     ensures { result ≡ mac_in b.now }
 {
-    let inner = hash_in(&b[0..HASH_STATE]);
-    let outer = hash_in(&b[HASH_STATE..]);
-    Started { inner, outer }
+    Started {
+        inner: hash_in(&b[0..HASH_STATE]),
+        outer: hash_in(&b[HASH_STATE..]),
+    }
 }
 
 // An HMAC, written as a lent state.
@@ -181,67 +254,62 @@ fn mac_out(s: Started, b: &mut [u8])
     requires { length b.old ≡ 522 }
     ensures { b.new ≡ mac_out s }
 {
-    let inner = s.inner;
-    let outer = s.outer;
-    lay_hash(b, 0, inner);
-    lay_hash(b, HASH_STATE, outer);
+    lay_hash(b, 0, s.inner);
+    lay_hash(b, HASH_STATE, s.outer);
+}
+
+impl UnderWay<32> for Started {
+    type Made = Core;
+
+    ghost form = { mac_form };
+
+    ghost way = { mac_way };
+
+    ghost ended = { λ s. Ok (mac_ended s) };
+
+    fn size() -> usize {
+        HMAC_STATE
+    }
+
+    fn read(lent: &[u8]) -> Started {
+        mac_in(lent)
+    }
+
+    fn write(self, lent: &mut [u8]) {
+        mac_out(self, lent);
+    }
+
+    fn fed(self, part: &[u8]) -> Result<Started, Refusal> {
+        derive::hmac_feed(self, part)
+    }
+
+    fn end(self) -> Result<[u8; 32], Refusal> {
+        Ok(derive::hmac_end(self))
+    }
 }
 
 // An HMAC begun under a key of 32 bytes. 1: a length.
-pub fn hmac_begin(key: &[u8], state: &mut [u8]) -> u8
-    ensures { (result ≡ begun_number mac_form (mac_begun key.now).code state.old)
-        × (state.new ≡ begun_after mac_form (mac_begun key.now).code (mac_begun key.now).state state.old) }
+pub fn hmac_begin(key: &[u8], state: &mut [u8]) -> Result<(), Refusal>
+    ensures { (number_told result ≡ begun_number mac_form (mac_begun key.now) state.old)
+        × (state.new ≡ begun_after mac_form (mac_begun key.now) state.old) }
 {
-    if state.len() != HMAC_STATE {
-        return Refusal::INPUT;
-    }
-    let f = derive::hmac_begin(key);
-    if f.code != 0 {
-        return f.code;
-    }
-    mac_out(f.state, state);
-    0
+    begin(derive::hmac_begin(key), state)
 }
 
 // An HMAC fed. 1: the state's length, or the total.
-pub fn hmac_feed(state: &mut [u8], part: &[u8]) -> u8
-    ensures { (result ≡ fed_number mac_form mac_way state.old part.now)
+pub fn hmac_feed(state: &mut [u8], part: &[u8]) -> Result<(), Refusal>
+    ensures { (number_told result ≡ fed_number mac_form mac_way state.old part.now)
         × (state.new ≡ fed_after mac_form mac_way state.old part.now) }
 {
-    if state.len() != HMAC_STATE {
-        return Refusal::INPUT;
-    }
-    let f = derive::hmac_feed(mac_in(state), part);
-    if f.code != 0 {
-        return f.code;
-    }
-    mac_out(f.state, state);
-    0
+    feed::<32, Started>(state, part)
 }
 
 // An HMAC ended. 1: a length.
-pub fn hmac_end(state: &[u8], out: &mut [u8]) -> u8
-    ensures { (result ≡ ended_number mac_form 32 state.now out.old 0)
-        × (out.new ≡ ended_after mac_form 32 state.now out.old 0 (mac_ended (mac_in state.now))) }
+pub fn hmac_end(state: &[u8], out: &mut [u8]) -> Result<(), Refusal>
+    ensures { (number_told result ≡ ended_number mac_form 32 state.now out.old (Ok (mac_ended (mac_in state.now))))
+        × (out.new ≡ ended_after mac_form 32 state.now out.old (Ok (mac_ended (mac_in state.now)))) }
 {
-    if state.len() != HMAC_STATE {
-        return Refusal::INPUT;
-    }
-    if out.len() != 32 {
-        return Refusal::INPUT;
-    }
-    lay(out, 0, &derive::hmac_end(mac_in(state)));
-    0
-}
-
-// The eight bytes from p on.
-fn eight_at(b: &[u8], p: usize) -> [u8; 8]
-    requires { p + 8 ≤ length b.now }
-    ensures { result ≡ take 8 (drop p b.now) }
-{
-    let mut r = [0; 8];
-    lay(&mut r, 0, &b[p..p + 8]);
-    r
+    end::<32, Started>(state, out)
 }
 
 // The code that a lent state is.
@@ -249,14 +317,13 @@ fn code_in(b: &[u8]) -> Coding
     requires { length b.now ≡ 53 }
     ensures { result ≡ code_in b.now }
 {
-    let halves = Halves {
-        n1: word_at(b, 32),
-        n2: word_at(b, 36),
-    };
     Coding {
-        subkeys: cipher::expand(derive::key_of(&b[0..32])),
-        halves,
-        buffer: eight_at(b, 40),
+        subkeys: cipher::expand(bytes_at(b, 0)),
+        halves: Halves {
+            n1: word_at(b, 32),
+            n2: word_at(b, 36),
+        },
+        buffer: bytes_at(b, 40),
         fill: fill_at(b, 48),
         total: word_at(b, 49),
     }
@@ -267,10 +334,8 @@ fn lay_subkeys(b: &mut [u8], ks: [u32; 8])
     requires { 32 ≤ length b.old }
     ensures { b.new ≡ paste b.old 0 (octets_of ks) 32 }
 {
-    let mut i = 0;
-    while i < 8 {
+    for i in 0..8 {
         lay(b, 4 * i, &octets::word_octets(ks[i]));
-        i += 1;
     }
 }
 
@@ -289,64 +354,62 @@ fn code_out(s: Coding, b: &mut [u8])
     requires { length b.old ≡ 53 }
     ensures { b.new ≡ code_out s }
 {
-    let subkeys = s.subkeys;
-    let halves = s.halves;
-    let buffer = s.buffer;
-    lay_subkeys(b, subkeys);
-    lay_halves(b, 32, halves);
-    lay(b, 40, &buffer);
+    lay_subkeys(b, s.subkeys);
+    lay_halves(b, 32, s.halves);
+    lay(b, 40, &s.buffer);
     lay_end(b, 48, s.fill, s.total);
 }
 
+impl UnderWay<4> for Coding {
+    type Made = Halves;
+
+    ghost form = { code_form };
+
+    ghost way = { code_way };
+
+    ghost ended = { code_ended };
+
+    fn size() -> usize {
+        CODE_STATE
+    }
+
+    fn read(lent: &[u8]) -> Coding {
+        code_in(lent)
+    }
+
+    fn write(self, lent: &mut [u8]) {
+        code_out(self, lent);
+    }
+
+    fn fed(self, part: &[u8]) -> Result<Coding, Refusal> {
+        cipher::code_feed(self, part)
+    }
+
+    fn end(self) -> Result<[u8; 4], Refusal> {
+        cipher::code_end(self)
+    }
+}
+
 // A code begun under a key of 32 bytes. 1: a length.
-pub fn code_begin(key: &[u8], state: &mut [u8]) -> u8
-    ensures { (result ≡ begun_number code_form (code_begun key.now).code state.old)
-        × (state.new ≡ begun_after code_form (code_begun key.now).code (code_begun key.now).state state.old) }
+pub fn code_begin(key: &[u8], state: &mut [u8]) -> Result<(), Refusal>
+    ensures { (number_told result ≡ begun_number code_form (code_begun key.now) state.old)
+        × (state.new ≡ begun_after code_form (code_begun key.now) state.old) }
 {
-    if state.len() != CODE_STATE {
-        return Refusal::INPUT;
-    }
-    let f = cipher::code_begin(key);
-    if f.code != 0 {
-        return f.code;
-    }
-    code_out(f.state, state);
-    0
+    begin(cipher::code_begin(key), state)
 }
 
 // A code fed. 1: the state's length, or the total.
-pub fn code_feed(state: &mut [u8], part: &[u8]) -> u8
-    ensures { (result ≡ fed_number code_form code_way state.old part.now)
+pub fn code_feed(state: &mut [u8], part: &[u8]) -> Result<(), Refusal>
+    ensures { (number_told result ≡ fed_number code_form code_way state.old part.now)
         × (state.new ≡ fed_after code_form code_way state.old part.now) }
 {
-    if state.len() != CODE_STATE {
-        return Refusal::INPUT;
-    }
-    let f = cipher::code_feed(code_in(state), part);
-    if f.code != 0 {
-        return f.code;
-    }
-    code_out(f.state, state);
-    0
+    feed::<4, Coding>(state, part)
 }
 
 // A code ended. 1: a length, no whole block, or bytes after the last one.
-pub fn code_end(state: &[u8], out: &mut [u8]) -> u8
-    ensures { (result ≡ ended_number code_form 4 state.now out.old (code_ended (code_in state.now)).code)
-        × (out.new
-        ≡ ended_after code_form 4 state.now out.old (code_ended (code_in state.now)).code (code_ended (code_in state.now)).bytes) }
+pub fn code_end(state: &[u8], out: &mut [u8]) -> Result<(), Refusal>
+    ensures { (number_told result ≡ ended_number code_form 4 state.now out.old (code_ended (code_in state.now)))
+        × (out.new ≡ ended_after code_form 4 state.now out.old (code_ended (code_in state.now))) }
 {
-    if state.len() != CODE_STATE {
-        return Refusal::INPUT;
-    }
-    if out.len() != 4 {
-        return Refusal::INPUT;
-    }
-    let r = cipher::code_end(code_in(state));
-    if r.code != 0 {
-        return r.code;
-    }
-    let bytes = r.bytes;
-    lay(out, 0, &bytes);
-    0
+    end::<4, Coding>(state, out)
 }

@@ -1,13 +1,12 @@
 -- Half-bytes and bytes, what the tests of a PIN and of a block say, and the loops over half-bytes. Assumes nothing.
 use mathlib.Core.Path.{◌≡◌, refl, sym, ap, ap₂, subst, ◌∙◌}
-use mathlib.Core.Bool.{Bool, true, false, ◌&&◌, and-false, and-eq-true_iff}
+use mathlib.Core.Bool.{true, ◌&&◌, and-eq-true_iff}
 use mathlib.Core.List.{List, [], ◌∷◌, ◌++◌, map}
 use Prim.Native.Nat.{ℕ, zero, suc, ◌+◌, ◌-◌, ◌*◌, ◌/◌, ◌%◌, ◌≤◌, ◌<◌, suc-le-suc, zero-le}
 use native.Mathlib.Omega.{arith}
-use borrow.Author.Tests.{eqb-true, leb-true, eq-eqb, ne_eqb, le-leb, lt-leb}
+use borrow.Author.Tests.{eqb-true, leb-true}
 use lib.Dec.{leb, eqb}
-use lib.ListN.{length, get_or, take, drop, replicate, length-append, length-replicate}
-use lib.Seq.{paste, take_all, drop-drop}
+use lib.ListN.{length, get_or, drop, replicate, length-append, length-replicate}
 use Rattle.octets.specs.Numbers.{Octets}
 use Rattle.octets.specs.Digits.{digits, pairs}
 use Rattle.octets.proofs.DigitLaws.{digits_at}
@@ -75,18 +74,6 @@ module _ (f n : ℕ) (s : List ℕ) where
       let b = (and-eq-true_iff (leb n 12) (digits f n s)).0 a.1 in
       record { least = leb-true 4 n a.0; most = leb-true n 12 b.0; all = b.1 }
 
-  pub too_few : n < 4 → false ≡ pin_fits f n s
-  unfolding pin_fits
-  too_few h = simp (lt-leb _ _ h)
-
-  pub too_many : 12 < n → false ≡ pin_fits f n s
-  unfolding pin_fits
-  too_many h = simp (lt-leb _ _ h, and-false)
-
-  pub by_digits : 4 ≤ n → n ≤ 12 → (t : Bool) → t ≡ digits f n s → t ≡ pin_fits f n s
-  unfolding pin_fits
-  by_digits l m t e = e ∙ sym (simp (le-leb _ _ l, le-leb _ _ m))
-
 pub record Formed (h : List ℕ) : Type 0 where
   pub control : get_or h 0 0 ≡ 2
   pub pin : Fits 15 (get_or h 1 0) (drop 2 h)
@@ -97,16 +84,6 @@ module _ (h : List ℕ) where
   formed t =
       let a = (and-eq-true_iff (eqb (get_or h 0 0) 2) (pin_fits 15 (get_or h 1 0) (drop 2 h))).0 t in
       record { control = eqb-true _ _ a.0; pin = fits 15 (get_or h 1 0) (drop 2 h) a.1 }
-
-  pub no_control : (get_or h 0 0 ≡ 2 → ⊥) → false ≡ well_formed h
-  unfolding well_formed
-  no_control e = simp (ne_eqb _ _ e)
-
-  pub by_pin : length h ≡ 16 → get_or h 0 0 ≡ 2 → (t : Bool) → t ≡ pin_fits 15 (get_or h 1 0) (take 14 (drop 2 h)) → t ≡ well_formed h
-  unfolding well_formed
-  by_pin l e t w =
-      w ∙ ap (pin_fits 15 (get_or h 1 0)) (ap (λ (s : List ℕ). take 14 (drop 2 s)) (elements_all h 16 l) ∙ sym (ap (drop 2) (elements_all h 16 l)))
-      ∙ sym (simp (eq-eqb _ _ e))
 
 -- ---- half-bytes
 
@@ -138,12 +115,11 @@ module _ (pin : List ℕ) where
   small_fields f (suc zero) = omega (arith, f.most)
   small_fields f (suc (suc i)) = small_filled pin (14 - length pin) (digits_at 0 (length pin) pin f.all) i
 
-  -- the loop that puts the digits in
-  pub fields_made : paste (2 ∷ length pin ∷ replicate 14 15) 2 pin (length pin) ≡ fields pin
+  -- the digits laid in
+  pub fields_laid : (x : List ℕ) (k : ℕ) → x ≡ pin → k ≡ length pin → 2 ∷ length pin ∷ (x ++ drop k (replicate 14 15)) ≡ fields pin
   unfolding fields
-  fields_made =
-      ap₂ {C = List ℕ} (λ x y. 2 ∷ length pin ∷ (x ++ y)) (take_all (length pin) pin (omega arith))
-      (sym (drop-drop (length pin) 2 (2 ∷ length pin ∷ replicate 14 15)) ∙ drop-replicate (length pin) 14 15)
+  fields_laid x k e h =
+      ap₂ {C = List ℕ} (λ s n. 2 ∷ length pin ∷ (s ++ drop n (replicate 14 15))) e h ∙ ap (λ (s : List ℕ). 2 ∷ length pin ∷ (pin ++ s)) (drop-replicate (length pin) 14 15)
 
 -- an even number of half-bytes is read back from its bytes, which are octets
 pub halves_pairs : (s : List ℕ) (k : ℕ) → length s ≡ k + k → Small s → nibbles (pairs 16 s) ≡ s

@@ -5,20 +5,19 @@ ghost use Rattle.std.specs.Prelude.{◌≡◌, true, ◌++◌, map, ◌+◌, ◌
 ghost use Rattle.octets.specs.Digits.{pairs};
 ghost use Rattle.pin.specs.PinBlock.{pin_fits, nibbles, fields, pin_block, well_formed};
 ghost use Rattle.pin.specs.CounterBlock.{counter_block, counters_of};
-ghost use Rattle.pin.specs.Answers.{no_pin, write_pin, read_block, read_pin, encipher_pin, decipher_pin};
+ghost use Rattle.pin.specs.Answers.{write_pin, read_block, read_pin, encipher_pin, decipher_pin};
 
-use answers::{BlockAnswer, Refusal, no_block};
+use answers::{Refusal, exactly};
 
-// A PIN in twelve places, zeros in the unused ones, and its count; or a refusal's number and zeros.
-#[derive(Clone, Copy)]
-pub struct PinRead {
-    pub code: u8,
-    pub pin: [u8; 12],
+// A PIN in twelve places, zeros in the unused ones, and its count.
+#[derive(Clone, Copy, Debug, PartialEq, Eq)]
+pub struct Pin {
+    pub digits: [u8; 12],
     pub count: u8,
 }
 
 // The counters of a counter block, by their names in 002.
-#[derive(Clone, Copy)]
+#[derive(Clone, Copy, Debug, PartialEq, Eq)]
 pub struct Counters {
     // AC Session Counter
     pub session: u16,
@@ -30,28 +29,12 @@ pub struct Counters {
     pub authentications: u16,
 }
 
-// A refused reading: the number and zeros.
-fn no_pin(code: u8) -> PinRead
-    ensures { result ≡ no_pin code }
-{
-    PinRead {
-        code,
-        pin: [0; 12],
-        count: 0,
-    }
-}
-
 // Whether s is a PIN of n digits, n from 4 to 12, and then fillers.
+#[tactic(auto, unfolding(crate::specs::PinBlock::pin_fits))]
 pub fn pin_fits(s: &[u8], n: usize, filler: u8) -> bool
     ensures { result ≡ pin_fits filler n s.now }
 {
-    if n < 4 {
-        return false;
-    }
-    if n > 12 {
-        return false;
-    }
-    octets::digits(s, n, filler)
+    matches!(n, 4..=12) && octets::digits(s, n, filler)
 }
 
 // The half-bytes of the block of a PIN.
@@ -62,11 +45,7 @@ fn fields_of(pin: &[u8]) -> [u8; 16]
     let mut h = [0xf; 16];
     h[0] = 2;
     h[1] = pin.len() as u8;
-    let mut i = 0;
-    while i < pin.len() {
-        h[2 + i] = pin[i];
-        i += 1;
-    }
+    h[2..2 + pin.len()].copy_from_slice(pin);
     h
 }
 
@@ -75,10 +54,8 @@ fn join(h: [u8; 16]) -> [u8; 8]
     ensures { result ≡ pairs 16 (map (λ x. x % 16) h) }
 {
     let mut r = [0; 8];
-    let mut i = 0;
-    while i < 8 {
+    for i in 0..8 {
         r[i] = 16 * (h[2 * i] % 16) + h[2 * i + 1] % 16;
-        i += 1;
     }
     r
 }
@@ -88,11 +65,9 @@ fn split(b: [u8; 8]) -> [u8; 16]
     ensures { result ≡ nibbles b }
 {
     let mut r = [0; 16];
-    let mut i = 0;
-    while i < 8 {
+    for i in 0..8 {
         r[2 * i] = b[i] / 16;
         r[2 * i + 1] = b[i] % 16;
-        i += 1;
     }
     r
 }
@@ -106,26 +81,21 @@ fn block_of(pin: &[u8]) -> [u8; 8]
 }
 
 // A PIN's block; 12 where it is not 4 to 12 digits.
-pub fn write_pin(digits: &[u8]) -> BlockAnswer
+pub fn write_pin(digits: &[u8]) -> Result<[u8; 8], Refusal>
     ensures { result ≡ write_pin digits.now }
 {
     if !pin_fits(digits, digits.len(), 0) {
-        return no_block(Refusal::PIN_DIGITS);
+        return Err(Refusal::PinDigits);
     }
-    let bytes = block_of(digits);
-    BlockAnswer { code: 0, bytes }
+    Ok(block_of(digits))
 }
 
 // Whether half-bytes are those of a PIN block.
+#[tactic(auto, unfolding(crate::specs::PinBlock::well_formed))]
 fn well_formed(h: [u8; 16]) -> bool
     ensures { result ≡ well_formed h }
 {
-    let control = h[0];
-    let n = h[1];
-    if control != 2 {
-        return false;
-    }
-    pin_fits(&h[2..], n as usize, 0xf)
+    h[0] == 2 && pin_fits(&h[2..], h[1] as usize, 0xf)
 }
 
 // The first n digits of a block's half-bytes, and zeros to twelve.
@@ -133,77 +103,47 @@ fn twelve(h: [u8; 16], n: u8) -> [u8; 12]
     requires { n ≤ 12 }
     ensures { result ≡ take n (drop 2 h) ++ replicate (12 - n) 0 }
 {
-    let mut pin = [0; 12];
     let m = n as usize;
-    let mut i = 0;
-    while i < m {
-        pin[i] = h[2 + i];
-        i += 1;
-    }
+    let mut pin = [0; 12];
+    pin[..m].copy_from_slice(&h[2..2 + m]);
     pin
 }
 
-// The bytes of a block.
-fn eight(b: &[u8]) -> [u8; 8]
-    requires { length b.now ≡ 8 }
-    ensures { result ≡ b.now }
-{
-    [b[0], b[1], b[2], b[3], b[4], b[5], b[6], b[7]]
-}
-
 // The PIN of a block; 9 where its format is wrong.
-pub fn read_block(block: [u8; 8]) -> PinRead
+pub fn read_block(block: [u8; 8]) -> Result<Pin, Refusal>
     ensures { result ≡ read_block block }
 {
     let h = split(block);
     if !well_formed(h) {
-        return no_pin(Refusal::PIN_FORMAT);
+        return Err(Refusal::PinFormat);
     }
     let count = h[1];
-    let pin = twelve(h, count);
-    PinRead {
-        code: 0,
-        pin,
+    Ok(Pin {
+        digits: twelve(h, count),
         count,
-    }
+    })
 }
 
 // The PIN of a block of 8 bytes; other lengths: 1, a wrong format: 9.
-pub fn read_pin(block: &[u8]) -> PinRead
+pub fn read_pin(block: &[u8]) -> Result<Pin, Refusal>
     ensures { result ≡ read_pin block.now }
 {
-    if block.len() != 8 {
-        return no_pin(Refusal::INPUT);
-    }
-    read_block(eight(block))
+    read_block(exactly(block)?)
 }
 
 // A PIN's block enciphered under a key of 32 bytes, else 1; 12 where the PIN is not 4 to 12 digits.
-pub fn encipher_pin(key: &[u8], digits: &[u8]) -> BlockAnswer
+pub fn encipher_pin(key: &[u8], digits: &[u8]) -> Result<[u8; 8], Refusal>
     ensures { result ≡ encipher_pin key.now digits.now }
 {
-    if key.len() != 32 {
-        return no_block(Refusal::INPUT);
-    }
-    if !pin_fits(digits, digits.len(), 0) {
-        return no_block(Refusal::PIN_DIGITS);
-    }
-    let b = block_of(digits);
-    let r = cipher::encipher(key, &b);
-    let bytes = r.bytes;
-    BlockAnswer { code: 0, bytes }
+    let k = cipher::expand(exactly(key)?);
+    Ok(cipher::encipher_with(k, write_pin(digits)?))
 }
 
 // The PIN of an enciphered block of 8 bytes under a key of 32; other lengths: 1, a wrong format: 9.
-pub fn decipher_pin(key: &[u8], block: &[u8]) -> PinRead
+pub fn decipher_pin(key: &[u8], block: &[u8]) -> Result<Pin, Refusal>
     ensures { result ≡ decipher_pin key.now block.now }
 {
-    let r = cipher::decipher(key, block);
-    if r.code != 0 {
-        return no_pin(Refusal::INPUT);
-    }
-    let b = r.bytes;
-    read_block(b)
+    read_block(cipher::decipher(key, block)?)
 }
 
 // The block of the counters, each high byte first.

@@ -3,7 +3,7 @@ use Rattle.std.proofs.Common.{◌≡◌, ℕ, suc, ◌+◌, ◌-◌, ◌*◌, �
 use mathlib.Core.Bool.{and-eq-true_iff}
 use lib.Bits.{bit_xor, xor_comm}
 use lib.ListN.{get_or-append}
-use lib.Seq.{paste, take-paste, drop-paste, length-paste, sets, sets-eq}
+use lib.Seq.{get_or-append_seam, paste, take-paste, drop-paste, length-paste, sets, sets-eq}
 use Rattle.octets.specs.Same.{same}
 use Rattle.octets.proofs.SameLaws.{same_true}
 use Rattle.lps.specs.Vectors.{X, LPS}
@@ -132,6 +132,14 @@ module _ (cs : List (List ℕ)) where
   pub rounds_end : (i : ℕ) (k s : List ℕ) → length cs ≤ i → X k s ≡ E (drop i cs) k s
   unfolding E
   rounds_end i k s h = ap (λ (l : List (List ℕ)). E l k s) (sym (constants_end i h))
+
+  -- the constants before the last, and the last
+  module _ (others : List (List ℕ)) (last : List ℕ) (e : cs ≡ others ++ last ∷ []) where
+    pub others_at : (i : ℕ) → i < length others → get_or others i [] ≡ get_or cs i []
+    others_at i h = sym (ap (λ (l : List (List ℕ)). get_or l i []) e ∙ get_or-append others (last ∷ []) [] i h)
+
+    pub last_at : last ≡ get_or cs (length others) []
+    last_at = sym (ap (λ (l : List (List ℕ)). get_or l (length others) []) e ∙ get_or-append_seam others last [] [])
 
   -- the last round
   pub rounds-last : (i : ℕ) (k s : List ℕ) → length cs ≡ i + 1 → X (LPS (X k (get_or cs i []))) (LPS (X s k)) ≡ E (drop i cs) k s

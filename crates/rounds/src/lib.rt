@@ -2,7 +2,6 @@
 #![tactic(auto)]
 
 ghost use Rattle.std.specs.Prelude.{◌≡◌, ◌+◌, ◌*◌, ◌^◌, ◌<◌, ◌≤◌, drop};
-ghost use Rattle.octets.specs.Same.{same};
 ghost use Rattle.lps.specs.Vectors.{X};
 ghost use Rattle.rounds.specs.Sums.{◌⊞◌};
 ghost use Rattle.rounds.specs.Rounds.{constants, g_over, g};
@@ -19,29 +18,22 @@ fn xor(a: [u64; 8], b: [u64; 8]) -> [u64; 8]
     ensures { result ≡ X a b }
 {
     let mut r = [0; 8];
-    let mut i = 0;
-    while i < 8 {
+    for i in 0..8 {
         r[i] = a[i] ^ b[i];
-        i += 1;
     }
     r
 }
 
-// The vector from word p on; where the words end before, zeros.
+// The vector from word p on; where the words end before, zeros. Of a loop LLVM makes reads in place, of copy_from_slice a copy for each round.
 pub fn vector(b: &[u64], p: usize) -> [u64; 8]
     ensures { result ≡ vector_at b.now p }
 {
-    if b.len() < 8 {
-        return [0; 8];
-    }
-    if b.len() - 8 < p {
+    if b.len() < 8 || b.len() - 8 < p {
         return [0; 8];
     }
     let mut r = [0; 8];
-    let mut i = 0;
-    while i < 8 {
+    for i in 0..8 {
         r[i] = b[p + i];
-        i += 1;
     }
     r
 }
@@ -50,16 +42,8 @@ pub fn vector(b: &[u64], p: usize) -> [u64; 8]
 pub fn lay(b: &mut [u64], p: usize, w: &[u64])
     ensures { b.new ≡ laid_words b.old p w.now }
 {
-    if b.len() < w.len() {
-        return;
-    }
-    if b.len() - w.len() < p {
-        return;
-    }
-    let mut j = 0;
-    while j < w.len() {
-        b[p + j] = w[j];
-        j += 1;
+    if w.len() <= b.len() && p <= b.len() - w.len() {
+        b[p..p + w.len()].copy_from_slice(w);
     }
 }
 
@@ -78,11 +62,9 @@ pub fn round_keys(n: [u64; 8], h: [u64; 8]) -> [u64; 104]
     let mut b = [0; 104];
     let mut k = h;
     turn(&mut k, &n);
-    let mut i = 0;
-    while i < 12 {
+    for i in 0..12 {
         lay(&mut b, 8 * i, &k);
         turn(&mut k, &c[i]);
-        i += 1;
     }
     lay(&mut b, 96, &k);
     b
@@ -96,26 +78,10 @@ pub fn compress_with(keys: &[u64], h: [u64; 8], m: [u64; 8]) -> [u64; 8]
         return [0; 8];
     }
     let mut s = m;
-    let mut i = 0;
-    while i < 12 {
+    for i in 0..12 {
         turn(&mut s, &vector(keys, 8 * i));
-        i += 1;
     }
     xor(xor(xor(vector(keys, 96), s), h), m)
-}
-
-// Whether two vectors are equal.
-fn alike(a: [u64; 8], b: [u64; 8]) -> bool
-    ensures { result ≡ same a b }
-{
-    let mut i = 0;
-    while i < 8 {
-        if a[i] != b[i] {
-            return false;
-        }
-        i += 1;
-    }
-    true
 }
 
 // g_n(h, m), with a round for each of the constants c: whoever has many blocks makes the constants once. The state goes by a key before the next
@@ -126,11 +92,9 @@ pub fn compress_over(c: &[[u64; 8]], n: [u64; 8], h: [u64; 8], m: [u64; 8]) -> [
     let mut k = h;
     let mut s = m;
     turn(&mut k, &n);
-    let mut i = 0;
-    while i < c.len() {
+    for x in c {
         turn(&mut s, &k);
-        turn(&mut k, &c[i]);
-        i += 1;
+        turn(&mut k, x);
     }
     xor(xor(xor(k, s), h), m)
 }
@@ -151,18 +115,15 @@ pub fn compress_upper(c: &[[u64; 8]], n: [u64; 8], h: [u64; 8], m: [u64; 8]) -> 
     let mut k = h;
     let mut s = m;
     turn(&mut k, &n);
-    if c.len() == 0 {
+    let Some((last, others)) = c.split_last() else {
         return upper_sum(k, s, h, m);
-    }
-    let last = c.len() - 1;
-    let mut i = 0;
-    while i < last {
+    };
+    for x in others {
         turn(&mut s, &k);
-        turn(&mut k, &c[i]);
-        i += 1;
+        turn(&mut k, x);
     }
     turn_upper(&mut s, &k);
-    turn_upper(&mut k, &c[last]);
+    turn_upper(&mut k, last);
     upper_sum(k, s, h, m)
 }
 
@@ -170,7 +131,7 @@ pub fn compress_upper(c: &[[u64; 8]], n: [u64; 8], h: [u64; 8], m: [u64; 8]) -> 
 fn is_first(n: [u64; 8], h: [u64; 8]) -> bool
     ensures { result ≡ is_first n h }
 {
-    alike(n, [0; 8]) && alike(h, [0x0101010101010101; 8])
+    n == [0; 8] && h == [0x0101010101010101; 8]
 }
 
 // g_n(h, m) of the first block of a hash, whose round keys are constants.
@@ -215,13 +176,10 @@ fn add_word(x: u64, y: u64, c: u64) -> Sum
 {
     let s = std::num::wrapping_add_u64(x, y);
     let v = std::num::wrapping_add_u64(s, c);
-    if s < x {
-        return Sum { value: v, carry: 1 };
+    Sum {
+        value: v,
+        carry: (s < x || v < s) as u64,
     }
-    if v < s {
-        return Sum { value: v, carry: 1 };
-    }
-    Sum { value: v, carry: 0 }
 }
 
 // a ⊞ b.
@@ -230,12 +188,10 @@ pub fn add(a: [u64; 8], b: [u64; 8]) -> [u64; 8]
 {
     let mut r = [0; 8];
     let mut carry = 0;
-    let mut i = 0;
-    while i < 8 {
+    for i in 0..8 {
         let s = add_word(a[i], b[i], carry);
         r[i] = s.value;
         carry = s.carry;
-        i += 1;
     }
     r
 }

@@ -13,7 +13,7 @@ use Rattle.templates.specs.declared.Holder.{Holder}
 use Rattle.templates.specs.declared.Holder.TheVariants.{Outer, Fresh, Begun}
 use Rattle.templates.specs.declared.Object.{Object}
 use Rattle.templates.specs.Grammar.{Kind, template1, template2, Script, Templates, nothing, script, outer, kind_tag, outer_tag, command_tag, identifier_tag, object, written_identifier, written_script, written, identifier_fits, commands_fit, script_fits, fits, head_size, object_at, identifier_objects, command_objects, script_objects, objects_of, down_to, Sound}
-use Rattle.templates.specs.Reading.{stands, after, within, is_template, is_data, length_fits, judged}
+use Rattle.templates.specs.Reading.{stands, after, within, is_template, is_data, length_fits, judged, verdict}
 use Rattle.templates.proofs.HeadLaws.{both, joined}
 use Rattle.scripts.specs.Writing.{bytes_within, length_of_first, open_at, placed, level_after, holder_after, fault_from, objects_fault}
 use Rattle.scripts.specs.Statement.{WrittenAgain}
@@ -29,7 +29,7 @@ place_fits d h o n p =
     joined (le-leb _ _ p.low, joined (le-leb _ _ p.open_there, joined (p.stood, joined (p.long, le-leb _ _ p.most))))
 
 good_zero : (b : Bool) (l c : ℕ) → b ≡ true → l ≤ 4 → c < 32 → judged b l c ≡ 0
-unfolding judged
+unfolding judged verdict
 good_zero b l c e m n = simp (e, le-leb _ _ m, lt-ltb _ _ n)
 
 passes : (d : ℕ) (h : Holder) (c : ℕ) (o : Object) (os : List Object) → Place d h o (length_of_first o os) → o.level ≤ 4 → c < 32

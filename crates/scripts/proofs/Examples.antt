@@ -13,7 +13,7 @@ use Rattle.templates.specs.declared.Holder.TheVariants.{Outer}
 use Rattle.templates.specs.declared.Object.{Object}
 use Rattle.templates.specs.Grammar.{tag_bytes, head_size}
 use Rattle.templates.specs.Lent.{object_in, objects_in}
-use Rattle.templates.specs.Reading.{stands, after, within, is_template, is_data, length_fits, judged}
+use Rattle.templates.specs.Reading.{stands, after, within, is_template, is_data, length_fits, judged, verdict}
 use Rattle.scripts.specs.Writing.{lies, all_lie, own_length, added_by, bytes_within, length_of_first, data_in, bytes_of, open_at, placed, level_after, holder_after, fault_from, objects_fault, said, check_number, write_number, write_size, write_after}
 
 -- an object of tag, level, length and place as it is lent, its tag in two bytes
@@ -58,7 +58,7 @@ pub wrote_so : holds (
     -- part of an object
     ∷ record { objects = 0 ∷ 0x71 ∷ 0 ∷ []; source = []; buffer = []; place = 0; answer = 1 ∷ 0 ∷ [] }
     ∷ []) ≡ true
-unfolding same be le laid largest largest_short length_field tag_bytes head_size object_in objects_in stands after within is_template is_data length_fits judged lies all_lie own_length added_by bytes_within length_of_first data_in bytes_of open_at placed level_after holder_after fault_from objects_fault said check_number write_number write_size write_after
+unfolding same be le laid largest largest_short length_field tag_bytes head_size object_in objects_in stands after within is_template is_data length_fits judged verdict lies all_lie own_length added_by bytes_within length_of_first data_in bytes_of open_at placed level_after holder_after fault_from objects_fault said check_number write_number write_size write_after
 wrote_so = refl
 
 -- objects with so many ahead of them, and the number
@@ -88,5 +88,5 @@ pub faulted_so : faults (
     -- two at fault: the first in order
     ∷ record { ahead = 31; objects = plain 0x71 1 0 ∷ plain 0x71 1 0 ∷ plain 0x55 1 0 ∷ []; answer = 18 }
     ∷ []) ≡ true
-unfolding largest largest_short length_field tag_bytes head_size stands after within is_template is_data length_fits judged own_length added_by bytes_within length_of_first open_at placed level_after holder_after fault_from
+unfolding largest largest_short length_field tag_bytes head_size stands after within is_template is_data length_fits judged verdict own_length added_by bytes_within length_of_first open_at placed level_after holder_after fault_from
 faulted_so = refl

@@ -1,4 +1,7 @@
 -- The objects judged one after the other, and what 0 says of them. Assumes nothing.
+use Rattle.std.specs.Prelude.{Ok, Err}
+use Rattle.answers.specs.declared.Refusal.TheVariants.{BadObject, TooDeep, TooMany}
+use Rattle.answers.specs.Answers.{number_told}
 use mathlib.Core.Path.{◌≡◌, refl, sym, ap, ap₂, subst, ◌∙◌}
 use mathlib.Core.Bool.{Bool, true, false, ◌&&◌, not, cond}
 use mathlib.Core.List.{List, [], ◌∷◌}
@@ -11,7 +14,7 @@ use Rattle.shapes.specs.Length.{largest}
 use Rattle.templates.specs.declared.Holder.{Holder}
 use Rattle.templates.specs.declared.Holder.TheVariants.{Outer}
 use Rattle.templates.specs.declared.Object.{Object}
-use Rattle.templates.specs.Reading.{stands, length_fits, judged}
+use Rattle.templates.specs.Reading.{stands, length_fits, judged, verdict}
 use Rattle.templates.proofs.HeadLaws.{both}
 use Rattle.scripts.specs.Writing.{said, all_lie, length_of_first, open_at, placed, level_after, holder_after, fault_from, objects_fault, check_number}
 use Rattle.scripts.specs.Inner.{from, Taken, length_at, firsts, Table, Writable, none, more}
@@ -25,10 +28,11 @@ pub record Judged (f : Bool) (l c : ℕ) : Type 0 where
   pub few : c < 32
 
 pub judged_zero : (f : Bool) (l c : ℕ) → judged f l c ≡ 0 → Judged f l c
-unfolding judged
+unfolding judged verdict
 judged_zero f l c e = go f refl (leb l 4) refl (ltb c 32) refl e
   where
-    go : (x : Bool) → f ≡ x → (y : Bool) → leb l 4 ≡ y → (z : Bool) → ltb c 32 ≡ z → ◌≡◌ {A = ℕ} (cond x (cond y (cond z 0 18) 17) 16) 0 → Judged f l c
+    go : (x : Bool) → f ≡ x → (y : Bool) → leb l 4 ≡ y → (z : Bool) → ltb c 32 ≡ z
+        → number_told {T = Unit {0}} (cond x (cond y (cond z (Ok (tt {0})) (Err TooMany)) (Err TooDeep)) (Err BadObject)) ≡ 0 → Judged f l c
     go true i true j true k w = record { fit = i; deep = leb-true _ _ j; few = ltb-true _ _ k }
     go true i true j false k w = absurd (omega arith)
     go true i false j z k w = absurd (omega arith)
@@ -47,14 +51,14 @@ placed_agree d h o x y a =
 
 -- one object
 module _ (d : ℕ) (h : Holder) (c : ℕ) (o : Object) (os : List Object) where
-  abbrev verdict : ℕ
-  verdict = judged (placed d h o (length_of_first o os)) o.level c
+  abbrev told : ℕ
+  told = judged (placed d h o (length_of_first o os)) o.level c
 
-  pub fault_good : verdict ≡ 0 → fault_from d h c (o ∷ os) ≡ fault_from (level_after o) (holder_after d h o) (c + 1) os
+  pub fault_good : told ≡ 0 → fault_from d h c (o ∷ os) ≡ fault_from (level_after o) (holder_after d h o) (c + 1) os
   unfolding fault_from
   fault_good e = simp (eq-eqb _ _ e)
 
-  pub fault_bad : (verdict ≡ 0 → ⊥) → fault_from d h c (o ∷ os) ≡ verdict
+  pub fault_bad : (told ≡ 0 → ⊥) → fault_from d h c (o ∷ os) ≡ told
   unfolding fault_from
   fault_bad e = simp (ne_eqb _ _ e)
 

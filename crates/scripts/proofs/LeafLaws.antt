@@ -1,10 +1,11 @@
 -- One law for each way out of the writer's leaves. Assumes nothing.
 use mathlib.Core.Path.{◌≡◌, refl, sym, ap, ◌∙◌}
-use mathlib.Core.Bool.{Bool, true, false, not, cond, and-false}
+use mathlib.Core.Bool.{Bool, true, false, not, ◌&&◌, cond, and-false}
 use mathlib.Core.List.{List}
+use mathlib.Core.Logic.{◌⊎◌, inl, inr}
 use Prim.Native.Nat.{ℕ, ◌+◌, ◌-◌, ◌≤◌, ◌<◌}
 use native.Mathlib.Omega.{arith}
-use borrow.Author.Tests.{eq-eqb, ne_eqb, le-leb, lt-leb, leb-true, leb-false, not-true, not-false}
+use borrow.Author.Tests.{eq-eqb, ne_eqb, le-leb, lt-leb, leb-true, leb-false}
 use lib.Dec.{leb}
 use lib.ListN.{length}
 use Rattle.shapes.specs.Length.{largest}
@@ -18,25 +19,30 @@ use Rattle.scripts.specs.Writing.{lies, own_length, added_by, open_at, placed, l
 use Rattle.scripts.specs.Inner.{Headed, Added}
 
 module _ (s : List ℕ) (o : Object) (d : Bool) (e : d ≡ is_data o.tag) where
-  pub lies_template : not d ≡ true → true ≡ lies s o
+  pub lies_template : d ≡ false → not d ≡ lies s o
   unfolding lies
-  lies_template h = simp (sym e ∙ not-true d h)
+  lies_template h = simp (sym e ∙ h, h)
 
-  pub lies_long : not d ≡ false → largest < o.length → false ≡ lies s o
+  pub lies_long : d ≡ true → largest < o.length → leb o.length largest ≡ lies s o
   unfolding lies
-  lies_long h l = simp (sym e ∙ not-false d h, lt-leb _ _ l)
+  lies_long h l = simp (sym e ∙ h, lt-leb _ _ l)
 
-  pub lies_past : not d ≡ false → length s < o.length → false ≡ lies s o
+  pub lies_past : d ≡ true → length s < o.length → leb o.length (length s) ≡ lies s o
   unfolding lies
-  lies_past h l = simp (sym e ∙ not-false d h, lt-leb (o.place + o.length) (length s) (omega arith), and-false)
+  lies_past h l = simp (sym e ∙ h, lt-leb _ _ l, lt-leb (o.place + o.length) (length s) (omega arith), and-false)
 
-  pub lies_there : not d ≡ false → o.length ≤ largest → o.length ≤ length s → leb o.place (length s - o.length) ≡ lies s o
+  pub lies_there : d ≡ true → o.length ≤ largest → o.length ≤ length s → leb o.place (length s - o.length) ≡ lies s o
   unfolding lies
-  lies_there h l m = simp (sym e ∙ not-false d h, le-leb _ _ l) (go (leb o.place (length s - o.length)) refl)
+  lies_there h l m = simp (sym e ∙ h, le-leb _ _ l) (go (leb o.place (length s - o.length)) refl)
     where
       go : (b : Bool) → leb o.place (length s - o.length) ≡ b → leb o.place (length s - o.length) ≡ leb (o.place + o.length) (length s)
       go true f = let g : o.place ≤ length s - o.length = leb-true _ _ f in f ∙ sym (le-leb (o.place + o.length) (length s) (omega arith))
       go false f = let g : length s - o.length < o.place = leb-false _ _ f in f ∙ sym (lt-leb (o.place + o.length) (length s) (omega arith))
+
+-- the source is too short, or the data too long
+pub past_or : {l m : ℕ} → ((l ≤ largest) × (m < l)) ⊎ (largest < l) → l ≤ largest → m < l
+past_or (inl q) h = q.1
+past_or (inr q) h = absurd (omega arith)
 
 module _ (o : Object) (d : Bool) (e : d ≡ is_data o.tag) where
   pub own_data : (n : ℕ) → d ≡ true → o.length ≡ own_length o n
@@ -85,18 +91,30 @@ module _ (d : ℕ) (h : Holder) (o : Object) (n : ℕ) where
     stood : x ≡ stands (open_at d h o.level) o.tag
     stood = j ∙ ap (λ (z : Holder). stands z o.tag) i
 
-    pub placed_tag : not x ≡ true → false ≡ placed d h o n
+    placed_there : 1 ≤ o.level → o.level ≤ d → placed d h o n ≡ (x && (length_fits o.tag o.length && leb n largest))
     unfolding placed
-    placed_tag e = simp (sym stood ∙ not-true x e, and-false)
+    placed_there a b = simp (le-leb 1 o.level a, le-leb _ _ b, sym stood)
 
-    module _ (y : Bool) (f : y ≡ length_fits o.tag o.length) where
-      pub placed_length : not y ≡ true → false ≡ placed d h o n
-      unfolding placed
-      placed_length e = simp (sym f ∙ not-true y e, and-false)
+    -- v is what the first two tests say
+    pub both_next : x ≡ true → (y : Bool) → y ≡ length_fits o.tag o.length → (v : Bool) → v ≡ y → v ≡ (x && length_fits o.tag o.length)
+    both_next a y f v e = e ∙ f ∙ sym (ap (λ (z : Bool). z && length_fits o.tag o.length) a)
 
-      pub placed_last : (o.level ≡ 0 → ⊥) → o.level ≤ d → not x ≡ false → not y ≡ false → leb n largest ≡ placed d h o n
-      unfolding placed
-      placed_last a b u v = simp (le-leb 1 o.level (omega arith), le-leb _ _ b, sym stood ∙ not-false x u, sym f ∙ not-false y v)
+    pub both_end : x ≡ false → (v : Bool) → v ≡ x → v ≡ (x && length_fits o.tag o.length)
+    both_end a v e = e ∙ a ∙ sym (ap (λ (z : Bool). z && length_fits o.tag o.length) a)
+
+    module _ (a : 1 ≤ o.level) (b : o.level ≤ d) (v : Bool) (e : v ≡ (x && length_fits o.tag o.length)) where
+      chain : placed d h o n ≡ (v && leb n largest)
+      chain = placed_there a b ∙ go x (length_fits o.tag o.length) ∙ ap (λ (z : Bool). z && leb n largest) (sym e)
+        where
+          go : (p q : Bool) → (p && (q && leb n largest)) ≡ ((p && q) && leb n largest)
+          go true q = refl
+          go false q = refl
+
+      pub placed_not : v ≡ false → v ≡ placed d h o n
+      placed_not f = f ∙ sym (chain ∙ ap (λ (z : Bool). z && leb n largest) f)
+
+      pub placed_last : v ≡ true → leb n largest ≡ placed d h o n
+      placed_last f = sym (chain ∙ ap (λ (z : Bool). z && leb n largest) f)
 
 module _ (o : Object) (t : Bool) (e : t ≡ is_template o.tag) where
   pub level_template : t ≡ true → o.level + 1 ≡ level_after o
@@ -114,14 +132,3 @@ module _ (o : Object) (t : Bool) (e : t ≡ is_template o.tag) where
   pub holder_data : (d : ℕ) (h k : Holder) → k ≡ open_at d h o.level → (r : Holder) → r ≡ after k → t ≡ false → r ≡ holder_after d h o
   unfolding holder_after
   holder_data d h k i r j f = simp (sym e ∙ f) (j ∙ ap after i)
-
--- room
-pub room_past : (n at size : ℕ) → n < at → false ≡ leb (at + size) n
-room_past n at size h = simp (lt-leb (at + size) n (omega arith))
-
-pub room_there : (n at size : ℕ) → at ≤ n → leb size (n - at) ≡ leb (at + size) n
-room_there n at size h = go (leb size (n - at)) refl
-  where
-    go : (b : Bool) → leb size (n - at) ≡ b → leb size (n - at) ≡ leb (at + size) n
-    go true f = let g : size ≤ n - at = leb-true _ _ f in f ∙ sym (le-leb (at + size) n (omega arith))
-    go false f = let g : n - at < size = leb-false _ _ f in f ∙ sym (lt-leb (at + size) n (omega arith))

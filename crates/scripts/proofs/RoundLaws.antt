@@ -1,4 +1,5 @@
 -- Reading and writing undo each other, as callers see them. Assumes nothing.
+use Rattle.std.specs.Prelude.{None}
 use mathlib.Core.Path.{◌≡◌, refl, sym, ap, ap₂, ◌∙◌}
 use mathlib.Core.Bool.{Bool, true, false, ◌&&◌, cond}
 use mathlib.Core.List.{List, [], ◌∷◌, ◌++◌, append-nil}
@@ -225,7 +226,7 @@ is_after : (b s out : List ℕ) (p : ℕ) → write_number b s out p ≡ 0 → w
 unfolding write_after
 is_after b s out p e = simp (eq-eqb _ 0 e)
 
-written_read : (x : List ℕ) → Octets x → (reading x).code ≡ 0 → (out : List ℕ) (p : ℕ) → p + length x ≤ length out → Rewritten x out p
+written_read : (x : List ℕ) → Octets x → (reading x).fault ≡ None → (out : List ℕ) (p : ℕ) → p + length x ≤ length out → Rewritten x out p
 written_read x o e out p h =
     let d = reads_the_grammar.accepted x o e in
     let t = d.tree in
@@ -267,7 +268,7 @@ read_written b s out p e =
     in
     let w : WrittenAs t y = record { sound = g.sound; so = sym g.so } in
     record {
-      number = ap (λ (z : List ℕ). (reading z).code) i ∙ ap (λ (r : Read). r.code) (reads_the_grammar.each_tree t y w);
+      number = ap (λ (z : List ℕ). (reading z).fault) i ∙ ap (λ (r : Read). r.fault) (reads_the_grammar.each_tree t y w);
       same =
           ap (λ (z : List ℕ). read_back z (found (reading z))) i
           ∙ ap (read_back y) (found_tree t y w) ∙ ap (λ (z : List ℕ). read_back z (objects_of 1 0 t)) g.so ∙ sym g.same;

@@ -1,12 +1,13 @@
 -- Tag, length field and data, as they are stored. Assumes nothing.
-use mathlib.Core.Path.{◌≡◌, sym, ap, ◌∙◌}
+use mathlib.Core.Path.{◌≡◌, sym, ap, ap₂, ◌∙◌}
 use mathlib.Core.Bool.{true}
-use mathlib.Core.List.{List, [], ◌∷◌, ◌++◌}
+use mathlib.Core.List.{List, [], ◌∷◌, ◌++◌, append_assoc}
 use Prim.Native.Nat.{ℕ, ◌+◌, ◌≤◌, ◌<◌}
 use native.Mathlib.Numerals.{add-one}
 use native.Mathlib.Omega.{arith}
 use lib.ListN.{length, take, drop, set, length-drop}
-use lib.Seq.{paste, sets-eq, length-take-le}
+use lib.Seq.{sets-eq, drop-drop, length-take-le}
+use borrow.Rule.Slice.PartMut.{put_mid}
 use Rattle.octets.specs.Laid.{laid}
 use Rattle.shapes.specs.Length.{largest_short, length_field}
 use Rattle.shapes.proofs.LengthLaws.{field_short, field_long}
@@ -77,11 +78,16 @@ pub field_one : (b : List ℕ) (p n : ℕ) → n ≤ largest_short → p + lengt
 field_one b p n e h = stored_one b p n (length_field n) (field_short n e) h
 
 -- bytes copied
-pub data_pasted : (b : List ℕ) (p : ℕ) (s : List ℕ) (q n i : ℕ) → q + n ≤ length s → i ≡ n → Laid b p (take n (drop q s)) (p + n) (paste b p (drop q s) i)
+pub data_laid : (b : List ℕ) (p : ℕ) (s : List ℕ) (q n k j : ℕ) (x : List ℕ) → q + n ≤ length s → k ≡ n → j ≡ n → x ≡ take j (drop q s)
+    → Laid b p (take n (drop q s)) (p + n) (put_mid p k b x)
 unfolding laid
-data_pasted b p s q n i h e =
+data_laid b p s q n k j x h f g e =
     let l : length (take n (drop q s)) ≡ n = length-take-le n (drop q s) (simp length-drop (omega arith)) in
     record {
       next = omega arith;
-      buffer = ap (paste b p (drop q s)) e ∙ ap (λ (k : ℕ). take p b ++ take n (drop q s) ++ drop (p + k) b) (sym l);
+      buffer =
+          ap₂ (λ (y z : List ℕ). take p b ++ (y ++ z))
+          (e ∙ ap (λ (i : ℕ). take i (drop q s)) g)
+          (drop-drop k p b ∙ ap (λ (i : ℕ). drop (p + i) b) (f ∙ sym l))
+          ∙ sym (append_assoc (take p b) (take n (drop q s)) (drop (p + length (take n (drop q s))) b));
     }

@@ -1,36 +1,38 @@
 -- The bytes of the objects in an object, one object after the other; and what a table of the first objects alone says of them. Assumes nothing.
 use mathlib.Core.Path.{◌≡◌, refl, sym, ap, ap₂, subst, ◌∙◌}
-use mathlib.Core.Bool.{Bool, true, false, ◌&&◌, not, cond}
+use mathlib.Core.Bool.{Bool, true, false, ◌&&◌, cond}
 use mathlib.Core.List.{List, [], ◌∷◌}
-use Prim.Native.Nat.{ℕ, zero, suc, ◌+◌, ◌-◌, ◌*◌, ◌/◌, ◌≤◌, ◌<◌}
+use Prim.Native.Nat.{ℕ, zero, suc, min, ◌+◌, ◌-◌, ◌*◌, ◌/◌, ◌≤◌, ◌<◌}
 use native.Mathlib.Omega.{arith}
-use borrow.Author.Tests.{le-leb, lt-leb, leb-true, leb-false, not-true, not-false}
+use borrow.Author.Tests.{le-leb, lt-leb, leb-true, leb-false}
 use lib.Dec.{leb}
-use lib.ListN.{length, take, get_or, set, length-set}
-use lib.Seq.{get_or-set_same, get_or-set_other}
+use lib.ListN.{length, take, drop, get_or, set, length-set}
+use lib.Seq.{drop-drop, get_or-set_same, get_or-set_other}
+use Rattle.std.specs.List.{list_all, range_with_len}
 use Rattle.shapes.specs.Length.{largest}
 use Rattle.templates.specs.declared.Object.{Object}
+use Rattle.templates.specs.Lent.{object_in, objects_in}
 use Rattle.templates.specs.Reading.{is_data}
 use Rattle.templates.proofs.HeadLaws.{head_small}
-use Rattle.scripts.specs.Writing.{lies, all_lie, own_length, added_by, bytes_within, length_of_first}
+use Rattle.scripts.specs.Writing.{said, lies, all_lie, own_length, added_by, bytes_within, length_of_first}
 use Rattle.scripts.specs.Inner.{at, from, Taken, Added, length_at, Within, firsts, Table}
 use Rattle.scripts.proofs.FromLaws.{from_next, from_end, from_cut}
 
 -- data that lie in the source, object by object
-module _ (s : List ℕ) (n : ℕ) (b : List ℕ) (i : ℕ) (h : i < n) (o : Object) (t : Taken b i o) (d : Bool) (e : d ≡ lies s o) where
-  lie_next : all_lie s (from n b i) ≡ (d && all_lie s (from n b (i + 1)))
-  unfolding all_lie
-  lie_next = ap (all_lie s) (from_next n b i h) ∙ ap (λ (x : Bool). x && all_lie s (from n b (i + 1))) (sym (e ∙ ap (lies s) t.is))
+pub lie_at : (s b : List ℕ) (i : ℕ) (o : Object) (d : Bool) → Taken b i o → d ≡ lies s o → d ≡ lies s (at b i)
+lie_at s b i o d t e = e ∙ ap (lies s) t.is
 
-  pub lie_turn : not d ≡ false → all_lie s (from n b i) ≡ all_lie s (from n b (i + 1))
-  lie_turn x = lie_next ∙ ap (λ (y : Bool). y && all_lie s (from n b (i + 1))) (not-false d x)
+lie_from : (s b : List ℕ) (i k : ℕ) → list_all (λ j. lies s (at b j)) (range_with_len i k) ≡ all_lie s (objects_in k (drop (i * 10) b))
+unfolding all_lie objects_in at
+lie_from s b i zero = refl
+lie_from s b i (suc k) =
+    let f : i * 10 + 10 ≡ (i + 1) * 10 = omega arith in
+    ap (λ (x : Bool). lies s (object_in (take 10 (drop (i * 10) b))) && x)
+    (lie_from s b (i + 1) k ∙ ap (λ (x : List ℕ). all_lie s (objects_in k x)) (sym (drop-drop 10 (i * 10) b ∙ ap (λ (j : ℕ). drop j b) f)))
 
-  pub lie_stop : not d ≡ true → false ≡ all_lie s (from n b i)
-  lie_stop x = sym (lie_next ∙ ap (λ (y : Bool). y && all_lie s (from n b (i + 1))) (not-true d x))
-
-pub lie_end : (s : List ℕ) (n : ℕ) (b : List ℕ) (i : ℕ) → n ≤ i → true ≡ all_lie s (from n b i)
-unfolding all_lie
-lie_end s n b i h = sym (ap (all_lie s) (from_end n b i h))
+pub lie_all : (s b : List ℕ) → list_all (λ j. lies s (at b j)) (range_with_len 0 (length b / 10)) ≡ all_lie s (said b)
+unfolding said
+lie_all s b = lie_from s b 0 (length b / 10)
 
 -- deeper objects
 pub within_shut : (l : ℕ) (o : Object) (os : List Object) → o.level ≤ l → bytes_within l (o ∷ os) ≡ 0
@@ -96,13 +98,9 @@ module _ (n : ℕ) (b : List ℕ) (i : ℕ) (t : List ℕ) (w : Within n b (i + 
           let u : i < k = leb-false _ _ c in
           get_or-set_other t i k r 0 (λ z. omega (arith, z)) ∙ w.each k (omega arith) y
 
--- the same, as the loop goes down from i
-pub within_down : (n : ℕ) (b : List ℕ) (i : ℕ) (t : List ℕ) → 0 < i → Within n b i t → (o : Object) → Taken b (i - 1) o → (m : ℕ)
-    → m ≡ bytes_within o.level (from n b i)
-    → (r : ℕ) → r ≡ own_length o m → Within n b (i - 1) (set t (i - 1) r)
-within_down n b i t h w o ta m e r f =
-    let j : i ≡ i - 1 + 1 = omega arith in
-    within_filled n b (i - 1) t (subst (λ (k : ℕ). Within n b k t) j w) o ta m (e ∙ ap (λ (k : ℕ). bytes_within o.level (from n b k)) j) r f
+-- from i on, where it is said of the one before i and of those after it
+pub within_same : (n : ℕ) (b : List ℕ) (i : ℕ) (t : List ℕ) → 0 < i → Within n b i t → Within n b (i - 1 + 1) t
+within_same n b i t h w = let j : i ≡ i - 1 + 1 = omega arith in subst (λ (k : ℕ). Within n b k t) j w
 
 -- an object takes two bytes or more
 added_two : (o : Object) (n : ℕ) → 2 ≤ added_by o n
@@ -195,6 +193,13 @@ all_measured n h = simp (le-leb _ _ h)
 pub most_measured : (n : ℕ) → 192 < n → firsts n ≡ 192
 unfolding firsts
 most_measured n h = simp (lt-leb _ _ h)
+
+pub firsts_min : (n : ℕ) → min n 192 ≡ firsts n
+firsts_min n = go (leb n 192) refl
+  where
+    go : (x : Bool) → leb n 192 ≡ x → min n 192 ≡ firsts n
+    go true e = let h : n ≤ 192 = leb-true _ _ e in omega (arith, all_measured n h)
+    go false e = let h : 192 < n = leb-false _ _ e in omega (arith, most_measured n h)
 
 pub length_agree : (n : ℕ) (b : List ℕ) (i : ℕ) → i ≤ 32 → Agree (length_at (firsts n) b i) (length_at n b i)
 unfolding length_at length_of_first

@@ -1,11 +1,16 @@
 -- Objects written one after the other, and what writing answers. Assumes nothing.
+use Rattle.std.specs.Prelude.{Ok, Err}
+use Rattle.answers.specs.declared.Refusal.{Refusal}
+use Rattle.answers.specs.declared.Refusal.TheVariants.{NoRoom}
+use Rattle.answers.specs.Refusals.{number}
+use Rattle.answers.proofs.Laws.{not_zero}
 use mathlib.Core.Path.{◌≡◌, refl, sym, ap, subst, ◌∙◌}
 use mathlib.Core.Bool.{Bool, true, false, ◌&&◌, ◌||◌, not, cond}
 use mathlib.Core.List.{List, [], ◌∷◌, ◌++◌, append_assoc, append-nil}
 use Prim.Native.Nat.{ℕ, ◌+◌, ◌/◌, ◌≤◌, ◌<◌}
 use native.Mathlib.Nat.{add-zero}
 use native.Mathlib.Omega.{arith}
-use borrow.Author.Tests.{eq-eqb, ne_eqb, leb-true, not-true, not-false}
+use borrow.Author.Tests.{eq-eqb, ne_eqb, leb-true, not-true, not-false, eqb-false}
 use lib.Dec.{eqb, leb}
 use lib.ListN.{length, take, drop, get_or, length-append, length-drop, take-append-drop}
 use lib.Seq.{length-take-le}
@@ -275,9 +280,10 @@ bytes_size s (o ∷ os) w e =
 
 -- what writing answers
 module _ (b s out : List ℕ) (p : ℕ) where
-  pub refused : (k : ℕ) → k ≡ check_number b s → (k ≡ 0 → ⊥) → Wrote b s out p k 0 out
+  pub refused : (q : Refusal) → number q ≡ check_number b s → Wrote b s out p (Err q) out
   unfolding write_number write_size write_after
-  refused k e n =
+  refused q e =
+      let n : number q ≡ 0 → ⊥ = eqb-false _ _ (not_zero q) in
       let w : write_number b s out p ≡ check_number b s = number_refused in
       let z : eqb (write_number b s out p) 0 ≡ false = ne_eqb _ _ (λ i. n (e ∙ sym w ∙ i)) in
       record {
@@ -288,11 +294,11 @@ module _ (b s out : List ℕ) (p : ℕ) where
       }
     where
       number_refused : write_number b s out p ≡ check_number b s
-      number_refused = simp (ne_eqb (check_number b s) 0 (λ i. n (e ∙ i)))
+      number_refused = simp (ne_eqb (check_number b s) 0 (λ i. eqb-false _ _ (not_zero q) (e ∙ i)))
 
-  module _ (t : List ℕ) (w : Table b t) (k : ℕ) (e : k ≡ check_number b s) (z : k ≡ 0) where
+  module _ (t : List ℕ) (w : Table b t) (z : 0 ≡ check_number b s) where
     pub granted : Accepted b s
-    granted = accepted b s (sym e ∙ z)
+    granted = accepted b s (sym z)
 
     pub measured_all : Within (count b) b 0 t
     measured_all = table_all b t granted.few w
@@ -306,9 +312,9 @@ module _ (b s out : List ℕ) (p : ℕ) where
 
       pub number_is : write_number b s out p ≡ cond r 0 3
       unfolding write_number
-      number_is = simp (eq-eqb (check_number b s) 0 (sym e ∙ z), is_room)
+      number_is = simp (eq-eqb (check_number b s) 0 (sym z), is_room)
 
-      pub no_room : not r ≡ true → Wrote b s out p 3 0 out
+      pub no_room : not r ≡ true → Wrote b s out p (Err NoRoom) out
       unfolding write_size write_after
       no_room h =
           let c : write_number b s out p ≡ 3 = number_is ∙ ap (λ (x : Bool). cond x 0 3) (not-true r h) in
@@ -330,7 +336,7 @@ module _ (b s out : List ℕ) (p : ℕ) where
               room = leb-true _ _ (is_room ∙ not-false r h);
             }
 
-        pub written : (y : List ℕ) → y ≡ laid out p (bytes_of s (said b)) → Wrote b s out p 0 size y
+        pub written : (y : List ℕ) → y ≡ laid out p (bytes_of s (said b)) → Wrote b s out p (Ok size) y
         unfolding write_size write_after
         written y i =
             let c : write_number b s out p ≡ 0 = number_is ∙ ap (λ (x : Bool). cond x 0 3) (not-false r h) in

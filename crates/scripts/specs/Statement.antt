@@ -1,6 +1,6 @@
 -- What a writer of script templates is to be, said by the grammar: "writing again what was read gives the same bytes", and what is written is a tree that shows
 -- "the same tags, levels, lengths and data in the same order". Assumes nothing.
-use Rattle.std.specs.Prelude.{ℕ, ◌+◌, ◌%◌, ◌≤◌, ◌≡◌, true, List, [], ◌∷◌, length, take, drop}
+use Rattle.std.specs.Prelude.{ℕ, ◌+◌, ◌%◌, ◌≤◌, ◌≡◌, true, List, [], ◌∷◌, length, take, drop, None}
 use Rattle.octets.specs.Numbers.{Octets}
 use Rattle.octets.specs.Laid.{laid}
 use Rattle.templates.specs.declared.Object.{Object}
@@ -68,7 +68,7 @@ placed_bytes b s out at = take (write_size b s out at) (drop at (write_after b s
 
 -- it is read, says the same as the objects b, and no other byte of the buffer is another
 pub record ReadAgain (b s out : List ℕ) (at : ℕ) : Type 0 where
-  pub number : (reading (placed_bytes b s out at)).code ≡ 0
+  pub number : (reading (placed_bytes b s out at)).fault ≡ None
   pub same : read_back (placed_bytes b s out at) (found (reading (placed_bytes b s out at))) ≡ given s (said b)
   pub others : write_after b s out at ≡ laid out at (placed_bytes b s out at)
 
@@ -76,6 +76,6 @@ pub record ReadAgain (b s out : List ℕ) (at : ℕ) : Type 0 where
 -- written if they say what a tree says that has room
 pub record BothWays : Type 0 where
   pub read_written : (b s out : List ℕ) (at : ℕ) → write_number b s out at ≡ 0 → ReadAgain b s out at
-  pub written_read : (x : List ℕ) → Octets x → (reading x).code ≡ 0 → (out : List ℕ) (at : ℕ) → at + length x ≤ length out → Rewritten x out at
+  pub written_read : (x : List ℕ) → Octets x → (reading x).fault ≡ None → (out : List ℕ) (at : ℕ) → at + length x ≤ length out → Rewritten x out at
   pub written_when : (b s out : List ℕ) (at : ℕ) (t : Templates) → Sound t → length b % 10 ≡ 0 → all_lie s (said b) ≡ true
       → given s (said b) ≡ read_back (written t) (objects_of 1 0 t) → at + length (written t) ≤ length out → write_number b s out at ≡ 0

@@ -1,7 +1,10 @@
 -- Writing script templates (Wish 6): objects in order, as bytes that the caller lends, and their data in a source that he lends too. Assumes nothing.
-use Rattle.std.specs.Prelude.{ℕ, ◌+◌, ◌/◌, ◌%◌, ◌≡◌, Bool, true, ◌&&◌, ◌||◌, not, cond, List, [], ◌∷◌, ◌++◌, eqb, leb, length, take, drop}
+use Rattle.std.specs.Prelude.{ℕ, ◌+◌, ◌/◌, ◌%◌, ◌≡◌, Bool, true, ◌&&◌, ◌||◌, not, cond, List, [], ◌∷◌, ◌++◌, eqb, leb, length, take, drop, Result}
+use Rattle.std.specs.Result.{result_unwrap_or}
+use Rattle.answers.specs.declared.Refusal.{Refusal}
 use Rattle.answers.specs.declared.Refusal.TheVariants.{Input, NoRoom, BadObject}
 use Rattle.answers.specs.Refusals.{number}
+use Rattle.answers.specs.Answers.{number_told}
 use Rattle.octets.specs.Laid.{laid}
 use Rattle.shapes.specs.Length.{largest, length_field}
 use Rattle.templates.specs.declared.Holder.{Holder}
@@ -91,8 +94,8 @@ write_size b s out at = cond (eqb (write_number b s out at) 0) (length (bytes_of
 unfoldable pub write_after : List ℕ → List ℕ → List ℕ → ℕ → List ℕ
 write_after b s out at = cond (eqb (write_number b s out at) 0) (laid out at (bytes_of s (said b))) out
 
--- number, size and buffer are those
-pub record Wrote (b s out : List ℕ) (at code size : ℕ) (end : List ℕ) : Type 0 where
-  pub code_is : code ≡ write_number b s out at
-  pub size_is : size ≡ write_size b s out at
+-- number, size and buffer are those of the answer r
+pub record Wrote (b s out : List ℕ) (at : ℕ) (r : Result ℕ Refusal) (end : List ℕ) : Type 0 where
+  pub code_is : number_told r ≡ write_number b s out at
+  pub size_is : result_unwrap_or r 0 ≡ write_size b s out at
   pub buffer_is : end ≡ write_after b s out at

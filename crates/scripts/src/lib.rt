@@ -2,6 +2,7 @@
 #![tactic(auto)]
 
 ghost use Rattle.std.specs.Prelude.{◌≡◌, true, ◌++◌, ◌+◌, ◌*◌, ◌/◌, ◌<◌, ◌≤◌, leb, length, take, drop};
+ghost use Rattle.answers.specs.Answers.{number_told};
 ghost use Rattle.octets.specs.Numbers.{be};
 ghost use Rattle.octets.specs.Laid.{laid};
 ghost use Rattle.shapes.specs.Length.{largest, length_field};
@@ -11,13 +12,6 @@ ghost use Rattle.scripts.specs.Inner.{Pair, Taken, firsts, from, Headed, Added, 
 
 use answers::Refusal;
 use templates::{Holder, Object};
-
-// The refusal's number, 0 where there is none, and how many bytes are written.
-#[derive(Clone, Copy)]
-pub struct Written {
-    pub code: u8,
-    pub size: usize,
-}
 
 // The number of two bytes at a place, high first.
 fn pair(b: &[u8], at: usize) -> usize
@@ -50,31 +44,17 @@ fn object_at(objects: &[u8], i: usize) -> Object
 fn lies(source: &[u8], o: Object) -> bool
     ensures { result ≡ liesIn source.now o }
 {
-    if !templates::is_data(o.tag) {
-        return true;
-    }
-    if o.length > shapes::LARGEST {
-        return false;
-    }
-    if o.length > source.len() {
-        return false;
-    }
-    o.place <= source.len() - o.length
+    !templates::is_data(o.tag)
+        || (o.length <= shapes::LARGEST
+            && o.length <= source.len()
+            && o.place <= source.len() - o.length)
 }
 
 // Whether those of all objects do.
 fn all_lie(objects: &[u8], source: &[u8]) -> bool
     ensures { result ≡ all_lie source.now (said objects.now) }
 {
-    let n = objects.len() / 10;
-    let mut i = 0;
-    while i < n {
-        if !lies(source, object_at(objects, i)) {
-            return false;
-        }
-        i += 1;
-    }
-    true
+    (0..objects.len() / 10).all(|i| lies(source, object_at(objects, i)))
 }
 
 // The length of an object's data: its own, or n.
@@ -82,9 +62,10 @@ fn own_length(o: Object, n: usize) -> usize
     ensures { result ≡ own_length o n }
 {
     if templates::is_data(o.tag) {
-        return o.length;
+        o.length
+    } else {
+        n
     }
-    n
 }
 
 // The size of tag and length field.
@@ -108,14 +89,12 @@ fn bytes_within(objects: &[u8], lengths: &[usize], n: usize, i: usize, level: us
     ensures { result ≡ bytes_within level (from n objects.now i) }
 {
     let mut sum = 0;
-    let mut k = i;
-    while k < n {
+    for k in i..n {
         let o = object_at(objects, k);
         if o.level <= level {
             return sum;
         }
         sum += added_by(o, lengths[k]);
-        k += 1;
     }
     sum
 }
@@ -124,10 +103,7 @@ fn bytes_within(objects: &[u8], lengths: &[usize], n: usize, i: usize, level: us
 fn measured(n: usize) -> usize
     ensures { result ≡ firsts n }
 {
-    if n <= 192 {
-        return n;
-    }
-    192
+    n.min(192)
 }
 
 // Their lengths, from the last to the first.
@@ -136,12 +112,9 @@ fn lengths_of(objects: &[u8]) -> [usize; 192]
 {
     let n = measured(objects.len() / 10);
     let mut lengths = [0usize; 192];
-    let mut i = n;
-    while i > 0 {
-        let o = object_at(objects, i - 1);
-        let inside = bytes_within(objects, &lengths, n, i, o.level);
-        i -= 1;
-        lengths[i] = own_length(o, inside);
+    for i in (0..n).rev() {
+        let o = object_at(objects, i);
+        lengths[i] = own_length(o, bytes_within(objects, &lengths, n, i + 1, o.level));
     }
     lengths
 }
@@ -150,29 +123,19 @@ fn lengths_of(objects: &[u8]) -> [usize; 192]
 fn open_at(level: usize, holder: Holder, l: usize) -> Holder
     ensures { result ≡ open_at level holder l }
 {
-    if l == level {
-        return holder;
-    }
-    Holder::Outer
+    if l == level { holder } else { Holder::Outer }
 }
 
 // Whether an object of length n may stand there.
 fn placed(level: usize, holder: Holder, o: Object, n: usize) -> bool
     ensures { result ≡ is_placed level holder o n }
 {
-    if o.level == 0 {
+    if o.level == 0 || o.level > level {
         return false;
     }
-    if o.level > level {
-        return false;
-    }
-    if !open_at(level, holder, o.level).stands(o.tag) {
-        return false;
-    }
-    if !templates::length_fits(o.tag, o.length) {
-        return false;
-    }
-    n <= shapes::LARGEST
+    open_at(level, holder, o.level).stands(o.tag)
+        && templates::length_fits(o.tag, o.length)
+        && n <= shapes::LARGEST
 }
 
 // The level of the innermost holder after an object, and the holder.
@@ -181,56 +144,50 @@ fn level_after(o: Object) -> usize
     ensures { result ≡ level_after o }
 {
     if templates::is_template(o.tag) {
-        return o.level + 1;
+        o.level + 1
+    } else {
+        o.level
     }
-    o.level
 }
 
 fn holder_after(level: usize, holder: Holder, o: Object) -> Holder
     ensures { result ≡ holder_after level holder o }
 {
     if templates::is_template(o.tag) {
-        return Holder::within(o.tag);
+        Holder::within(o.tag)
+    } else {
+        open_at(level, holder, o.level).after()
     }
-    open_at(level, holder, o.level).after()
 }
 
-// The number of the first object at fault, or 0.
-fn fault_from(objects: &[u8], lengths: &[usize]) -> u8
+// Whether no object is at fault, or why the first that is.
+fn fault_from(objects: &[u8], lengths: &[usize]) -> Result<(), Refusal>
     requires { Table objects.now lengths.now }
-    ensures { result ≡ fault_from 1 Holder.Outer 0 (said objects.now) }
+    ensures { number_told result ≡ fault_from 1 Holder.Outer 0 (said objects.now) }
 {
     let n = objects.len() / 10;
     let mut level = 1;
     let mut holder = Holder::Outer;
-    let mut i = 0;
-    while i < n {
+    for i in 0..n {
         let o = object_at(objects, i);
         let fits = placed(level, holder, o, lengths[i]);
-        let code = templates::judge(fits, o.level, i);
-        if code != 0 {
-            return code;
-        }
+        templates::judge(fits, o.level, i)?;
         holder = holder_after(level, holder, o);
         level = level_after(o);
-        i += 1;
     }
-    0
+    Ok(())
 }
 
-// The number that the objects answer, whatever the buffer.
-fn check(objects: &[u8], source: &[u8], lengths: &[usize]) -> u8
+// Whether the objects can be written, whatever the buffer.
+fn check(objects: &[u8], source: &[u8], lengths: &[usize]) -> Result<(), Refusal>
     requires { Table objects.now lengths.now }
-    ensures { result ≡ check_number objects.now source.now }
+    ensures { number_told result ≡ check_number objects.now source.now }
 {
-    if objects.len() % 10 != 0 {
-        return Refusal::INPUT;
-    }
-    if !all_lie(objects, source) {
-        return Refusal::INPUT;
+    if objects.len() % 10 != 0 || !all_lie(objects, source) {
+        return Err(Refusal::Input);
     }
     if objects.len() / 10 == 0 {
-        return Refusal::BAD_OBJECT;
+        return Err(Refusal::BadObject);
     }
     fault_from(objects, lengths)
 }
@@ -268,11 +225,7 @@ fn write_data(out: &mut [u8], at: usize, source: &[u8], place: usize, n: usize) 
     requires { (place + n ≤ length source.now) × (at + n ≤ length out.old) }
     ensures { Laid out.old at (take n (drop place source.now)) result out.new }
 {
-    let mut i = 0;
-    while i < n {
-        out[at + i] = source[place + i];
-        i += 1;
-    }
+    out[at..at + n].copy_from_slice(&source[place..place + n]);
     at + n
 }
 
@@ -296,11 +249,9 @@ fn write_objects(out: &mut [u8], at: usize, objects: &[u8], lengths: &[usize], s
 {
     let n = objects.len() / 10;
     let mut place = at;
-    let mut i = 0;
-    while i < n {
+    for i in 0..n {
         let o = object_at(objects, i);
         place = write_object(out, place, source, o, lengths[i]);
-        i += 1;
     }
 }
 
@@ -308,28 +259,24 @@ fn write_objects(out: &mut [u8], at: usize, objects: &[u8], lengths: &[usize], s
 fn has_room(length: usize, at: usize, size: usize) -> bool
     ensures { result ≡ leb (at + size) length }
 {
-    if at > length {
-        return false;
-    }
-    size <= length - at
+    at <= length && size <= length - at
 }
 
-// Writes the objects at a place of the buffer and answers 0 and how many bytes they are; or 1, 16, 17, 18 or 3, and writes nothing.
-pub fn write_templates(objects: &[u8], source: &[u8], out: &mut [u8], at: usize) -> Written
-    ensures { Wrote objects.now source.now out.old at result.code result.size out.new }
+// Writes the objects at a place of the buffer and answers how many bytes they are; or 1, 16, 17, 18 or 3, and writes nothing.
+pub fn write_templates(
+    objects: &[u8],
+    source: &[u8],
+    out: &mut [u8],
+    at: usize,
+) -> Result<usize, Refusal>
+    ensures { Wrote objects.now source.now out.old at result out.new }
 {
     let lengths = lengths_of(objects);
-    let code = check(objects, source, &lengths);
-    if code != 0 {
-        return Written { code, size: 0 };
-    }
+    check(objects, source, &lengths)?;
     let size = bytes_within(objects, &lengths, objects.len() / 10, 0, 0);
     if !has_room(out.len(), at, size) {
-        return Written {
-            code: Refusal::NO_ROOM,
-            size: 0,
-        };
+        return Err(Refusal::NoRoom);
     }
     write_objects(out, at, objects, &lengths, source);
-    Written { code: 0, size }
+    Ok(size)
 }

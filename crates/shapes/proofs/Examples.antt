@@ -6,7 +6,8 @@ use Prim.Native.Nat.{ℕ, ◌+◌, ◌≤◌}
 use native.Mathlib.Omega.{arith}
 use lib.Dec.{lit≤}
 use lib.ListN.{length, get_or}
-use Rattle.shapes.specs.declared.Opened.TheVariants.{Refused}
+use Rattle.std.specs.Prelude.{Err}
+use Rattle.answers.specs.declared.Refusal.TheVariants.{ShapeWrong}
 use Rattle.shapes.specs.Length.{largest, largest_short, length_field}
 use Rattle.shapes.specs.Shape.{length_of, length_of_under, place_of_under, body_size_under, size_of, size_of_under, shape}
 use Rattle.shapes.specs.Answers.{shaped}
@@ -14,21 +15,21 @@ use Rattle.shapes.proofs.LengthLaws.{largest_small, place_small, says_low, says_
 use Rattle.shapes.proofs.ShapeLaws.{shape_good}
 use Rattle.shapes.proofs.AnswerLaws.{shape_most}
 
-unread : (m : List ℕ) → length_of m ≡ largest + 1 → shaped m ≡ Refused 4
+unread : (m : List ℕ) → length_of m ≡ largest + 1 → shaped m ≡ Err ShapeWrong
 unread m e = sym (shape_most m (largest + 1) (sym e) (omega arith))
 
 -- "81 7f is 4", and so is 81 before any byte below 80, whatever follows
-pub low_after_81 : (t b : ℕ) (s : List ℕ) → b ≤ 0x7f → shaped (t ∷ 0x81 ∷ b ∷ s) ≡ Refused 4
+pub low_after_81 : (t b : ℕ) (s : List ℕ) → b ≤ 0x7f → shaped (t ∷ 0x81 ∷ b ∷ s) ≡ Err ShapeWrong
 unfolding largest_short length_of_under
 low_after_81 t b s h = unread (t ∷ 0x81 ∷ b ∷ s) (says_low 0x81 b (lit≤ tt) h)
 
 -- and 81 with nothing after it
-pub cut_after_81 : (t : ℕ) → shaped (t ∷ 0x81 ∷ []) ≡ Refused 4
+pub cut_after_81 : (t : ℕ) → shaped (t ∷ 0x81 ∷ []) ≡ Err ShapeWrong
 unfolding largest_short length_of_under
 cut_after_81 t = unread (t ∷ 0x81 ∷ []) (says_low 0x81 0 (lit≤ tt) (lit≤ tt))
 
 -- "no other form is read": byte 80 and 82 to ff
-pub other_form : (t a : ℕ) (s : List ℕ) → 0x80 ≤ a → (a ≡ 0x81 → ⊥) → shaped (t ∷ a ∷ s) ≡ Refused 4
+pub other_form : (t a : ℕ) (s : List ℕ) → 0x80 ≤ a → (a ≡ 0x81 → ⊥) → shaped (t ∷ a ∷ s) ≡ Err ShapeWrong
 unfolding largest_short length_of_under
 other_form t a s h e = unread (t ∷ a ∷ s) (says_other a (get_or s 0 0) h e)
 

@@ -3,3 +3,4 @@ pub mod ShapeLaws
 pub mod AnswerLaws
 pub mod Examples
 pub mod CommandLaws
+pub mod ListedLaws

@@ -1,12 +1,12 @@
 -- The script commands (01, The soft card, Script). Assumes nothing.
-use Rattle.std.specs.Prelude.{ℕ, ◌≡◌, Bool, ◌&&◌, cond, List, [], ◌∷◌, eqb}
+use Rattle.std.specs.Prelude.{ℕ, ◌≡◌, Bool, ◌&&◌, cond, List, [], ◌∷◌, eqb, Result, Ok, Err}
+use Rattle.answers.specs.declared.Refusal.{Refusal}
 use Rattle.answers.specs.declared.Refusal.TheVariants.{NotListed}
 use Rattle.answers.specs.Refusals.{number}
+use Rattle.answers.specs.Answers.{number_told}
 use Rattle.octets.specs.Same.{same}
 use Rattle.shapes.specs.declared.command.Command.{Command}
 use Rattle.shapes.specs.declared.command.Command.TheVariants.{SetPin, SetMark, ClearMark}
-use Rattle.shapes.specs.declared.command.Listed.{Listed}
-use Rattle.shapes.specs.declared.command.Listed.TheVariants.{One, Unlisted}
 
 -- class, instruction and parameters
 unfoldable pub header_of : Command → List ℕ
@@ -35,23 +35,22 @@ unfoldable pub listed : List Command
 listed = SetPin ∷ SetMark ∷ ClearMark ∷ []
 
 -- the first of some commands that header, tag and L are for
-unfoldable pub first_of : List Command → List ℕ → ℕ → ℕ → Listed
-first_of [] header tag n = Unlisted NotListed
-first_of (c ∷ cs) header tag n = cond (is_for c header tag n) (One c) (first_of cs header tag n)
+unfoldable pub first_of : List Command → List ℕ → ℕ → ℕ → Result Command Refusal
+first_of [] header tag n = Err NotListed
+first_of (c ∷ cs) header tag n = cond (is_for c header tag n) (Ok c) (first_of cs header tag n)
 
 -- the command that header, tag and L are for
-abbrev pub command_of : List ℕ → ℕ → ℕ → Listed
+abbrev pub command_of : List ℕ → ℕ → ℕ → Result Command Refusal
 command_of = first_of listed
 
 -- 01's number of an answer, whose value is the command: "class, instruction, parameters, tag or L not one listed" is 5
-unfoldable pub refusal : Listed → ℕ
-refusal (One c) = 0
-refusal (Unlisted q) = number q
+abbrev pub refusal : Result Command Refusal → ℕ
+refusal = number_told
 
 abbrev pub number_for : List Command → List ℕ → ℕ → ℕ → ℕ
 number_for [] header tag n = number NotListed
 number_for (c ∷ cs) header tag n = cond (is_for c header tag n) 0 (number_for cs header tag n)
 
-pub record Lists (r : Listed) (header : List ℕ) (tag n : ℕ) : Type 0 where
+pub record Lists (r : Result Command Refusal) (header : List ℕ) (tag n : ℕ) : Type 0 where
   pub is : r ≡ command_of header tag n
   pub its_number : refusal r ≡ number_for listed header tag n

@@ -5,18 +5,11 @@ ghost use Rattle.shapes.specs.Command.{header_of, tag_for, length_for, is_for, L
 use answers::Refusal;
 
 // What a script command does: sets the PIN, sets the block mark, clears it.
-#[derive(Clone, Copy)]
+#[derive(Clone, Copy, Debug, PartialEq, Eq)]
 pub enum Command {
     SetPin,
     SetMark,
     ClearMark,
-}
-
-// A listed command, or why it is none.
-#[derive(Clone, Copy)]
-pub enum Listed {
-    One(Command),
-    Unlisted(Refusal),
 }
 
 impl Command {
@@ -75,29 +68,17 @@ impl Command {
     pub fn is_for(self, header: &[u8], tag: u8, length: usize) -> bool
         ensures { result ≡ is_for self header.now tag length }
     {
-        let own = self.header();
-        if !octets::same(header, &own) {
-            return false;
-        }
-        if tag != self.tag() {
-            return false;
-        }
-        length == self.length()
+        octets::same(header, &self.header()) && tag == self.tag() && length == self.length()
     }
 
     // The listed command that header, tag and length are for.
-    pub fn listed(header: &[u8], tag: u8, length: usize) -> Listed
+    pub fn listed(header: &[u8], tag: u8, length: usize) -> Result<Command, Refusal>
         ensures { Lists result header.now tag length }
     {
-        if Command::SetPin.is_for(header, tag, length) {
-            return Listed::One(Command::SetPin);
-        }
-        if Command::SetMark.is_for(header, tag, length) {
-            return Listed::One(Command::SetMark);
-        }
-        if Command::ClearMark.is_for(header, tag, length) {
-            return Listed::One(Command::ClearMark);
-        }
-        Listed::Unlisted(Refusal::NotListed)
+        [Command::SetPin, Command::SetMark, Command::ClearMark]
+            .iter()
+            .find(|command| command.is_for(header, tag, length))
+            .copied()
+            .ok_or(Refusal::NotListed)
     }
 }

@@ -10,17 +10,14 @@ use answers::Refusal;
 
 mod command;
 
-pub use command::{Command, Listed};
+pub use command::Command;
 
-// The tag, and the place and length of the data in the message; or a refusal's number.
-#[derive(Clone, Copy)]
-pub enum Opened {
-    Data {
-        tag: u8,
-        place: usize,
-        length: usize,
-    },
-    Refused(u8),
+// The tag, and the place and length of the data in the message.
+#[derive(Clone, Copy, Debug, PartialEq, Eq)]
+pub struct Found {
+    pub tag: u8,
+    pub place: usize,
+    pub length: usize,
 }
 
 // The largest length of data, the largest that its one byte says, and the byte ahead of a longer one.
@@ -34,10 +31,7 @@ pub const LONG_MARK: usize = 0x81;
 pub fn byte_at(message: &[u8], at: usize) -> usize
     ensures { result ≡ get_or message.now at 0 }
 {
-    if at >= message.len() {
-        return 0;
-    }
-    message[at] as usize
+    message.get(at).copied().unwrap_or(0) as usize
 }
 
 // What the length field of a message says; more than the largest where it has another form.
@@ -48,11 +42,8 @@ pub fn length_of(message: &[u8]) -> usize
     if first <= LARGEST_SHORT {
         return first;
     }
-    if first != LONG_MARK {
-        return LARGEST + 1;
-    }
     let second = byte_at(message, 2);
-    if second <= LARGEST_SHORT {
+    if first != LONG_MARK || second <= LARGEST_SHORT {
         return LARGEST + 1;
     }
     second
@@ -62,51 +53,42 @@ pub fn length_of(message: &[u8]) -> usize
 pub fn place_of(n: usize) -> usize
     ensures { result ≡ place_of n }
 {
-    if n <= LARGEST_SHORT {
-        return 2;
-    }
-    3
+    if n <= LARGEST_SHORT { 2 } else { 3 }
 }
 
 // Whether a tag is 87 or 81.
 pub fn is_tag(tag: u8) -> bool
     ensures { result ≡ tag_fits tag }
 {
-    if tag == 0x87 {
-        return true;
-    }
-    tag == 0x81
+    tag == 0x87 || tag == 0x81
 }
 
 // Whether the two bytes are those ahead of a code.
 fn is_code_head(a: u8, b: u8) -> bool
     ensures { result ≡ same (a ∷ b ∷ []) code_head }
 {
-    if a != 0x8e {
-        return false;
-    }
-    b == 0x04
+    a == 0x8e && b == 0x04
 }
 
 // Tag, place and length of the data of a message of good shape, or 4.
-pub fn shape(message: &[u8]) -> Opened
+pub fn shape(message: &[u8]) -> Result<Found, Refusal>
     ensures { Tells result (shaped message.now) (shape_number message.now) message.now }
 {
     let length = length_of(message);
     if length > LARGEST {
-        return Opened::Refused(Refusal::SHAPE_WRONG);
+        return Err(Refusal::ShapeWrong);
     }
     let place = place_of(length);
     let end = place + length;
-    if message.len() != end + 6 {
-        return Opened::Refused(Refusal::SHAPE_WRONG);
+    if message.len() != end + 6
+        || !is_tag(message[0])
+        || !is_code_head(message[end], message[end + 1])
+    {
+        return Err(Refusal::ShapeWrong);
     }
-    let tag = message[0];
-    if !is_tag(tag) {
-        return Opened::Refused(Refusal::SHAPE_WRONG);
-    }
-    if !is_code_head(message[end], message[end + 1]) {
-        return Opened::Refused(Refusal::SHAPE_WRONG);
-    }
-    Opened::Data { tag, place, length }
+    Ok(Found {
+        tag: message[0],
+        place,
+        length,
+    })
 }

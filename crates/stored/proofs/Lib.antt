@@ -1,2 +1,4 @@
 pub mod FormLaws
 pub mod LentLaws
+pub mod ReadLaws
+pub mod UnfitLaws

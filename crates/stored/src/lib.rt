@@ -2,14 +2,14 @@
 // length is 1, and a refusal leaves every lent byte as it was.
 #![tactic(auto)]
 
-ghost use Rattle.std.specs.Prelude.{◌≡◌, true, ◌+◌, ◌≤◌, length, take, drop};
-ghost use Rattle.std.proofs.Math.Seq.{paste};
+ghost use Rattle.std.specs.Prelude.{◌≡◌, ◌+◌, ◌≤◌, length, take, drop};
+ghost use Rattle.answers.specs.Answers.{number_told};
 ghost use Rattle.message.specs.Answers.{Wrote};
-ghost use Rattle.stored.specs.Form.{entry_at, flag as flagOf, entry_out, table_in, table_out};
-ghost use Rattle.stored.specs.Lent.{lent_desk, Kept, AddedIn, ForgottenIn, check_fits, KeptChecked, CheckedIn, wrap_fits, wraps_in};
+ghost use Rattle.stored.specs.Form.{entry_at, entry_out, table_in, table_out};
+ghost use Rattle.stored.specs.Lent.{lent_desk, AddedIn, ForgottenIn, CheckedIn, wraps_in};
 
 use answers::Refusal;
-use desk::{Checked, Desk, Told};
+use desk::Desk;
 use table::{CardId, Entry};
 
 // The length of a lent table, and of an entry of it.
@@ -17,17 +17,8 @@ pub const TABLE: usize = 1600;
 
 pub const ENTRY: usize = 25;
 
-// The bytes w, written from p on.
-fn lay(b: &mut [u8], p: usize, w: &[u8])
-    requires { p + length w.now ≤ length b.old }
-    ensures { b.new ≡ paste b.old p w.now (length w.now) }
-{
-    let mut i = 0;
-    while i < w.len() {
-        b[p + i] = w[i];
-        i += 1;
-    }
-}
+// In the place of a key that a call does not look at.
+const NO_KEY: [u8; 32] = [0; 32];
 
 // The digits of the entry at p.
 fn digits_at(b: &[u8], p: usize) -> [u8; 19]
@@ -35,8 +26,7 @@ fn digits_at(b: &[u8], p: usize) -> [u8; 19]
     ensures { result ≡ take 19 (drop (p + 2) b.now) }
 {
     let mut digits = [0; 19];
-    let from = p + 2;
-    lay(&mut digits, 0, &b[from..from + 19]);
+    digits.copy_from_slice(&b[p + 2..p + 21]);
     digits
 }
 
@@ -59,76 +49,26 @@ fn entry_at(b: &[u8], p: usize) -> Entry
     }
 }
 
-fn nothing() -> Entry {
-    Entry {
-        held: false,
-        id: CardId {
-            digits: [0; 19],
-            count: 0,
-            sequence: 0,
-        },
-        known: false,
-        last: 0,
-    }
-}
-
 // The entries of a lent table.
 fn table_in(b: &[u8]) -> [Entry; 64]
     requires { length b.now ≡ 1600 }
     ensures { result ≡ table_in b.now }
 {
-    let mut places = [nothing(); 64];
-    let mut i = 0;
-    while i < 64 {
-        places[i] = entry_at(b, 25 * i);
-        i += 1;
-    }
-    places
-}
-
-fn flag(x: bool) -> u8
-    ensures { result ≡ flagOf x }
-{
-    if x {
-        return 1;
-    }
-    0
+    std::array::from_fn(|i| entry_at(b, ENTRY * i))
 }
 
 // The bytes of an entry.
 fn entry_out(e: Entry) -> [u8; 25]
     ensures { result ≡ entry_out e }
 {
-    let id = e.id;
-    let d = id.digits;
-    let l = octets::high_first(e.last);
-    [
-        flag(e.held),
-        id.count,
-        d[0],
-        d[1],
-        d[2],
-        d[3],
-        d[4],
-        d[5],
-        d[6],
-        d[7],
-        d[8],
-        d[9],
-        d[10],
-        d[11],
-        d[12],
-        d[13],
-        d[14],
-        d[15],
-        d[16],
-        d[17],
-        d[18],
-        id.sequence,
-        flag(e.known),
-        l[0],
-        l[1],
-    ]
+    let mut b = [0; 25];
+    b[0] = e.held as u8;
+    b[1] = e.id.count;
+    b[2..21].copy_from_slice(&e.id.digits);
+    b[21] = e.id.sequence;
+    b[22] = e.known as u8;
+    b[23..].copy_from_slice(&octets::high_first(e.last));
+    b
 }
 
 // Writes the entries over a lent table.
@@ -136,11 +76,8 @@ fn table_out(places: [Entry; 64], b: &mut [u8])
     requires { length b.old ≡ 1600 }
     ensures { b.new ≡ table_out places }
 {
-    let mut i = 0;
-    while i < 64 {
-        let w = entry_out(places[i]);
-        lay(b, 25 * i, &w);
-        i += 1;
+    for (i, e) in places.iter().enumerate() {
+        b[ENTRY * i..ENTRY * i + ENTRY].copy_from_slice(&entry_out(*e));
     }
 }
 
@@ -159,72 +96,30 @@ fn desk_of(b: &[u8], ac: [u8; 32], smi: [u8; 32], smc: [u8; 32], packed: bool) -
     }
 }
 
-// The table after an adding or a forgetting, and its number.
-fn keep(t: Told, b: &mut [u8]) -> u8
-    requires { length b.old ≡ 1600 }
-    ensures { Kept true t b.old result b.new }
-{
-    if t.code != 0 {
-        return t.code;
-    }
-    let d = t.desk;
-    let places = d.places;
-    table_out(places, b);
-    0
-}
-
 // Adds a card. 1: the table's length; 2, 20, 21.
-pub fn add(table: &mut [u8], pan: &[u8], sequence: u8) -> u8
-    ensures { AddedIn table.old pan.now sequence result table.new }
+pub fn add(table: &mut [u8], pan: &[u8], sequence: u8) -> Result<(), Refusal>
+    ensures { AddedIn table.old pan.now sequence (number_told result) table.new }
 {
     if table.len() != TABLE {
-        return Refusal::INPUT;
+        return Err(Refusal::Input);
     }
-    let d = desk_of(table, [0; 32], [0; 32], [0; 32], false);
-    keep(desk::add(d, pan, sequence), table)
+    let lent = desk_of(table, NO_KEY, NO_KEY, NO_KEY, false);
+    let d = desk::add(lent, pan, sequence)?;
+    table_out(d.places, table);
+    Ok(())
 }
 
 // Forgets a card. 1: the table's length; 2, 19.
-pub fn forget(table: &mut [u8], pan: &[u8], sequence: u8) -> u8
-    ensures { ForgottenIn table.old pan.now sequence result table.new }
+pub fn forget(table: &mut [u8], pan: &[u8], sequence: u8) -> Result<(), Refusal>
+    ensures { ForgottenIn table.old pan.now sequence (number_told result) table.new }
 {
     if table.len() != TABLE {
-        return Refusal::INPUT;
+        return Err(Refusal::Input);
     }
-    let d = desk_of(table, [0; 32], [0; 32], [0; 32], false);
-    keep(desk::forget(d, pan, sequence), table)
-}
-
-// The table and the ARPC after a checking, and its number.
-fn keep_checked(x: Checked, b: &mut [u8], out: &mut [u8]) -> u8
-    requires { (length b.old ≡ 1600) × (length out.old ≡ 8) }
-    ensures { KeptChecked true x b.old out.old result b.new out.new }
-{
-    if x.code != 0 {
-        return x.code;
-    }
-    let d = x.desk;
-    let places = d.places;
-    table_out(places, b);
-    let a = x.arpc;
-    lay(out, 0, &a);
-    0
-}
-
-// Whether what is lent to a checking fits.
-fn check_fits(table: &[u8], issuer: &[u8], digits: u8, out: &[u8]) -> bool
-    ensures { result ≡ check_fits table.now issuer.now digits out.now }
-{
-    if table.len() != TABLE {
-        return false;
-    }
-    if issuer.len() != 32 {
-        return false;
-    }
-    if digits > 1 {
-        return false;
-    }
-    out.len() == 8
+    let lent = desk_of(table, NO_KEY, NO_KEY, NO_KEY, false);
+    let d = desk::forget(lent, pan, sequence)?;
+    table_out(d.places, table);
+    Ok(())
 }
 
 // Checks an ARQC over the data sent, keeps the counter, and gives the ARPC for a CSU. 1: a length, or digits above 1; 2, 19, 22, 23.
@@ -238,33 +133,19 @@ pub fn check(
     arqc: &[u8],
     csu: &[u8],
     out: &mut [u8],
-) -> u8
+) -> Result<(), Refusal>
     ensures { CheckedIn table.old issuer.now digits pan.now sequence «data».now arqc.now csu.now out.old
-        result table.new out.new }
+        (number_told result) table.new out.new }
 {
-    if !check_fits(table, issuer, digits, out) {
-        return Refusal::INPUT;
+    let ac = answers::exactly(issuer)?;
+    if table.len() != TABLE || digits > 1 || out.len() != 8 {
+        return Err(Refusal::Input);
     }
-    let ac = derive::key_of(issuer);
-    let d = desk_of(table, ac, [0; 32], [0; 32], digits == 1);
-    let x = desk::check(d, pan, sequence, data, arqc, csu);
-    keep_checked(x, table, out)
-}
-
-// Whether what is lent to a wrapping fits.
-fn wrap_fits(table: &[u8], smi: &[u8], smc: &[u8], digits: u8) -> bool
-    ensures { result ≡ wrap_fits table.now smi.now smc.now digits }
-{
-    if table.len() != TABLE {
-        return false;
-    }
-    if smi.len() != 32 {
-        return false;
-    }
-    if smc.len() != 32 {
-        return false;
-    }
-    digits <= 1
+    let lent = desk_of(table, ac, NO_KEY, NO_KEY, digits == 1);
+    let x = desk::check(lent, pan, sequence, data, arqc, csu)?;
+    table_out(x.desk.places, table);
+    out.copy_from_slice(&x.arpc);
+    Ok(())
 }
 
 // Writes header and message of a command at a place of the buffer. 1: a length, the instruction, or digits above 1; 2, 19, 12, 3.
@@ -280,20 +161,20 @@ pub fn wrap(
     pin: &[u8],
     buffer: &mut [u8],
     place: usize,
-) -> u8
+) -> Result<(), Refusal>
     ensures { Wrote
         (wraps_in table.now smi.now smc.now digits pan.now sequence instruction cryptogram.now pin.now
         buffer.old place)
-        result buffer.new }
+        (number_told result) buffer.new }
 {
-    if !wrap_fits(table, smi, smc, digits) {
-        return Refusal::INPUT;
+    let smi = answers::exactly(smi)?;
+    let smc = answers::exactly(smc)?;
+    if table.len() != TABLE || digits > 1 {
+        return Err(Refusal::Input);
     }
-    let a = derive::key_of(smi);
-    let b = derive::key_of(smc);
-    let d = desk_of(table, [0; 32], a, b, digits == 1);
+    let lent = desk_of(table, NO_KEY, smi, smc, digits == 1);
     desk::wrap(
-        d,
+        lent,
         pan,
         sequence,
         instruction,

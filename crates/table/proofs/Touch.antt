@@ -5,18 +5,19 @@ use native.Mathlib.Numerals.{add-one}
 use mathlib.Core.Path.{◌≡◌, refl, sym, ap, ap₂, ◌∙◌, subst⁻¹}
 use mathlib.Core.Bool.{Bool, true, false, not, ◌&&◌, ◌||◌, cond, true≢false, false≢true}
 use mathlib.Core.List.{List, [], ◌∷◌}
-use mathlib.Core.Option.{Option, none, some}
+use Rattle.std.specs.Prelude.{Option, None, Some, Result, Ok, Err}
 use lib.Dec.{eqb, ltb}
 use lib.ListN.{length}
 use borrow.Author.Tests.{eq-eqb, eqb-true, lt-ltb, le-ltb, ltb-true, ltb-false}
+use Rattle.answers.specs.declared.Refusal.{Refusal}
+use Rattle.answers.specs.declared.Refusal.TheVariants.{UnknownCard, AlreadyHeld, TableFull}
 use Rattle.octets.specs.Same.{same}
 use Rattle.octets.proofs.SameLaws.{same_true, same_refl}
 use Rattle.table.specs.declared.CardId.{CardId}
 use Rattle.table.specs.declared.Entry.{Entry}
-use Rattle.table.specs.declared.Changed.{Changed}
 use Rattle.table.specs.Table.{same_id, names, held, room, counter_of, readings, held_count}
-use Rattle.table.specs.Calls.{changed, fresh, empty, placed, adding, each, cleared_entry, forgetting, kept_entry, keeping, reading}
-use Rattle.table.specs.Acts.{Use, Act, adds, forgets, uses, last_of, kept_in, plainly, used, run}
+use Rattle.table.specs.Calls.{fresh, empty, placed, adding, each, cleared_entry, forgetting, kept_entry, keeping, reading}
+use Rattle.table.specs.Acts.{Use, Act, adds, forgets, uses, last_of, table_after, kept_in, plainly, used, run}
 use Rattle.table.specs.Seen.{is_some, first, over, over_by, only, taken, seen, view}
 
 -- the test is equality
@@ -91,7 +92,7 @@ last_reads c [] = refl
 last_reads c (e ∷ t) = go (names c e) (last_reads c t)
   where
     go : (b : Bool) → last_of (reading c t) ≡ first (readings c t)
-        → last_of (cond b (record { code = 0; known = e.known; last = e.last }) (reading c t)) ≡ first (cond b (counter_of e ∷ readings c t) (readings c t))
+        → last_of (cond b (Ok (counter_of e)) (reading c t)) ≡ first (cond b (counter_of e ∷ readings c t) (readings c t))
     go true ih = refl
     go false ih = ih
 
@@ -130,7 +131,7 @@ fresh_own : (c : CardId) → names c (fresh c) ≡ true
 unfolding names
 fresh_own c = id_refl c
 
-fresh_reads : (c : CardId) → counter_of (fresh c) ≡ none
+fresh_reads : (c : CardId) → counter_of (fresh c) ≡ None
 unfolding counter_of
 fresh_reads c = refl
 
@@ -139,13 +140,13 @@ nothing e = true≢false (ap is_some e)
 
 -- a card is placed
 module _ (c : CardId) where
-  pub placed_own : (t : List Entry) → room t ≡ true → readings c t ≡ [] → readings c (placed c t) ≡ none ∷ []
+  pub placed_own : (t : List Entry) → room t ≡ true → readings c t ≡ [] → readings c (placed c t) ≡ None ∷ []
   unfolding room placed
   placed_own [] r h = absurd (false≢true r)
   placed_own (e ∷ t) r h = go e.held (names c e) refl refl r (placed_own t)
     where
-      go : (b s : Bool) → e.held ≡ b → names c e ≡ s → (not b || room t) ≡ true → (room t ≡ true → readings c t ≡ [] → readings c (placed c t) ≡ none ∷ [])
-          → readings c (cond b (e ∷ placed c t) (fresh c ∷ t)) ≡ none ∷ []
+      go : (b s : Bool) → e.held ≡ b → names c e ≡ s → (not b || room t) ≡ true → (room t ≡ true → readings c t ≡ [] → readings c (placed c t) ≡ None ∷ [])
+          → readings c (cond b (e ∷ placed c t) (fresh c ∷ t)) ≡ None ∷ []
       go true true p q k ih = absurd (nothing (sym (read_cons c e t true q) ∙ h))
       go true false p q k ih = read_cons c e (placed c t) false q ∙ ih k (sym (read_cons c e t false q) ∙ h)
       go false s p q k ih =
@@ -260,7 +261,7 @@ module _ (c : CardId) (n : ℕ) where
   unfolding names
   names_kept m e = refl
 
-  reads_kept : (e : Entry) → counter_of (kept_as e) ≡ some n
+  reads_kept : (e : Entry) → counter_of (kept_as e) ≡ Some n
   unfolding counter_of
   reads_kept e = refl
 
@@ -344,17 +345,17 @@ module _ (c : CardId) (t : List Entry) where
         size = each_length (kept_entry c n) t;
       }
 
-  pub adding_as : (b r : Bool) → held c t ≡ b → room t ≡ r → adding c t ≡ cond b (changed 20 t) (cond r (changed 0 (placed c t)) (changed 21 t))
+  pub adding_as : (b r : Bool) → held c t ≡ b → room t ≡ r → adding c t ≡ cond b (Err AlreadyHeld) (cond r (Ok (placed c t)) (Err TableFull))
   unfolding adding
-  adding_as b r h k = ap₂ (λ (x y : Bool). cond x (changed 20 t) (cond y (changed 0 (placed c t)) (changed 21 t))) h k
+  adding_as b r h k = ap₂ (λ (x y : Bool). cond x (Err AlreadyHeld) (cond y (Ok (placed c t)) (Err TableFull))) h k
 
-  pub forgetting_as : (b : Bool) → held c t ≡ b → forgetting c t ≡ cond b (changed 0 (each (cleared_entry c) t)) (changed 19 t)
+  pub forgetting_as : (b : Bool) → held c t ≡ b → forgetting c t ≡ cond b (Ok (each (cleared_entry c) t)) (Err UnknownCard)
   unfolding forgetting
-  forgetting_as b h = ap (λ (x : Bool). cond x (changed 0 (each (cleared_entry c) t)) (changed 19 t)) h
+  forgetting_as b h = ap (λ (x : Bool). cond x (Ok (each (cleared_entry c) t)) (Err UnknownCard)) h
 
-  pub keeping_as : (n : ℕ) (b : Bool) → held c t ≡ b → keeping c n t ≡ cond b (changed 0 (each (kept_entry c n) t)) (changed 19 t)
+  pub keeping_as : (n : ℕ) (b : Bool) → held c t ≡ b → keeping c n t ≡ cond b (Ok (each (kept_entry c n) t)) (Err UnknownCard)
   unfolding keeping
-  keeping_as n b h = ap (λ (x : Bool). cond x (changed 0 (each (kept_entry c n) t)) (changed 19 t)) h
+  keeping_as n b h = ap (λ (x : Bool). cond x (Ok (each (kept_entry c n) t)) (Err UnknownCard)) h
 
   -- the readings, in a list and as a test
   by_list : (r : List (Option ℕ)) → readings c t ≡ r → held c t ≡ is_some r
@@ -365,46 +366,46 @@ module _ (c : CardId) (t : List Entry) where
     pub run_change : (a : Act A) → Change c t (run a c t).table
     run_change adds = go (readings c t) (room t) refl refl
       where
-        go : (r : List (Option ℕ)) (b : Bool) → readings c t ≡ r → room t ≡ b → Change c t (adding c t).places
-        go [] true h k = subst⁻¹ (λ (x : Changed). Change c t x.places) (adding_as false true (by_list [] h) k) (change_placed k h)
-        go [] false h k = subst⁻¹ (λ (x : Changed). Change c t x.places) (adding_as false false (by_list [] h) k) change_none
-        go (x ∷ r) b h k = subst⁻¹ (λ (y : Changed). Change c t y.places) (adding_as true b (by_list (x ∷ r) h) k) change_none
+        go : (r : List (Option ℕ)) (b : Bool) → readings c t ≡ r → room t ≡ b → Change c t (table_after (adding c t) t)
+        go [] true h k = subst⁻¹ (λ (x : Result (List Entry) Refusal). Change c t (table_after x t)) (adding_as false true (by_list [] h) k) (change_placed k h)
+        go [] false h k = subst⁻¹ (λ (x : Result (List Entry) Refusal). Change c t (table_after x t)) (adding_as false false (by_list [] h) k) change_none
+        go (x ∷ r) b h k = subst⁻¹ (λ (y : Result (List Entry) Refusal). Change c t (table_after y t)) (adding_as true b (by_list (x ∷ r) h) k) change_none
     run_change forgets = go (held c t) refl
       where
-        go : (b : Bool) → held c t ≡ b → Change c t (forgetting c t).places
-        go true h = subst⁻¹ (λ (x : Changed). Change c t x.places) (forgetting_as true h) change_cleared
-        go false h = subst⁻¹ (λ (x : Changed). Change c t x.places) (forgetting_as false h) change_none
+        go : (b : Bool) → held c t ≡ b → Change c t (table_after (forgetting c t) t)
+        go true h = subst⁻¹ (λ (x : Result (List Entry) Refusal). Change c t (table_after x t)) (forgetting_as true h) change_cleared
+        go false h = subst⁻¹ (λ (x : Result (List Entry) Refusal). Change c t (table_after x t)) (forgetting_as false h) change_none
     run_change (uses f) = go (held c t) (f (last_of (reading c t))) refl
       where
         keep : (k : Option ℕ) → held c t ≡ true → Change c t (kept_in c k t)
-        keep none h = change_none
-        keep (some n) h = subst⁻¹ (λ (x : Changed). Change c t x.places) (keeping_as n true h) (change_kept n)
+        keep None h = change_none
+        keep (Some n) h = subst⁻¹ (λ (x : Result (List Entry) Refusal). Change c t (table_after x t)) (keeping_as n true h) (change_kept n)
 
-        go : (b : Bool) (u : Use A) → held c t ≡ b → Change c t (cond b (used c u t) (record { number = 19; given = none; table = t })).table
+        go : (b : Bool) (u : Use A) → held c t ≡ b → Change c t (cond b (used c u t) (record { number = 19; given = None; table = t })).table
         go true u h = keep u.keep h
         go false u h = change_none
 
     pub run-seen : (a : Act A) → view c (run a c t) ≡ seen a (readings c t) (room t)
     run-seen adds = go (readings c t) (room t) refl refl
       where
-        go : (r : List (Option ℕ)) (b : Bool) → readings c t ≡ r → room t ≡ b → view {A = A} c (plainly (adding c t)) ≡ seen adds r b
-        go [] true h k = ap (λ (x : Changed). view {A = A} c (plainly x)) (adding_as false true (by_list [] h) k) ∙ ap (only {A = A} 0) (placed_own c t k h)
-        go [] false h k = ap (λ (x : Changed). view {A = A} c (plainly x)) (adding_as false false (by_list [] h) k) ∙ ap (only {A = A} 21) h
-        go (x ∷ r) b h k = ap (λ (y : Changed). view {A = A} c (plainly y)) (adding_as true b (by_list (x ∷ r) h) k) ∙ ap (only {A = A} 20) h
+        go : (r : List (Option ℕ)) (b : Bool) → readings c t ≡ r → room t ≡ b → view {A = A} c (plainly (adding c t) t) ≡ seen adds r b
+        go [] true h k = ap (λ (x : Result (List Entry) Refusal). view {A = A} c (plainly x t)) (adding_as false true (by_list [] h) k) ∙ ap (only {A = A} 0) (placed_own c t k h)
+        go [] false h k = ap (λ (x : Result (List Entry) Refusal). view {A = A} c (plainly x t)) (adding_as false false (by_list [] h) k) ∙ ap (only {A = A} 21) h
+        go (x ∷ r) b h k = ap (λ (y : Result (List Entry) Refusal). view {A = A} c (plainly y t)) (adding_as true b (by_list (x ∷ r) h) k) ∙ ap (only {A = A} 20) h
     run-seen forgets = go (readings c t) refl
       where
-        go : (r : List (Option ℕ)) → readings c t ≡ r → view {A = A} c (plainly (forgetting c t)) ≡ seen forgets r (room t)
-        go [] h = ap (λ (x : Changed). view {A = A} c (plainly x)) (forgetting_as false (by_list [] h)) ∙ ap (only {A = A} 19) h
-        go (x ∷ r) h = ap (λ (y : Changed). view {A = A} c (plainly y)) (forgetting_as true (by_list (x ∷ r) h)) ∙ ap (only {A = A} 0) (cleared_own c t)
+        go : (r : List (Option ℕ)) → readings c t ≡ r → view {A = A} c (plainly (forgetting c t) t) ≡ seen forgets r (room t)
+        go [] h = ap (λ (x : Result (List Entry) Refusal). view {A = A} c (plainly x t)) (forgetting_as false (by_list [] h)) ∙ ap (only {A = A} 19) h
+        go (x ∷ r) h = ap (λ (y : Result (List Entry) Refusal). view {A = A} c (plainly y t)) (forgetting_as true (by_list (x ∷ r) h)) ∙ ap (only {A = A} 0) (cleared_own c t)
     run-seen (uses f) = go (readings c t) refl (last_of (reading c t)) (last_reads c t)
       where
         keep : (k : Option ℕ) → held c t ≡ true → readings c (kept_in c k t) ≡ over_by k (readings c t)
-        keep none h = refl
-        keep (some n) h = ap (λ (x : Changed). readings c x.places) (keeping_as n true h) ∙ kept_own c n t
+        keep None h = refl
+        keep (Some n) h = ap (λ (x : Result (List Entry) Refusal). readings c (table_after x t)) (keeping_as n true h) ∙ kept_own c n t
 
-        go : (r : List (Option ℕ)) → readings c t ≡ r → (l : Option ℕ) → l ≡ first (readings c t) → view {A = A} c (cond (held c t) (used c (f l) t) (record { number = 19; given = none; table = t })) ≡ seen (uses f) r (room t)
-        go [] h l e = ap (λ (b : Bool). view {A = A} c (cond b (used c (f l) t) (record { number = 19; given = none; table = t }))) (by_list [] h) ∙ ap (only {A = A} 19) h
+        go : (r : List (Option ℕ)) → readings c t ≡ r → (l : Option ℕ) → l ≡ first (readings c t) → view {A = A} c (cond (held c t) (used c (f l) t) (record { number = 19; given = None; table = t })) ≡ seen (uses f) r (room t)
+        go [] h l e = ap (λ (b : Bool). view {A = A} c (cond b (used c (f l) t) (record { number = 19; given = None; table = t }))) (by_list [] h) ∙ ap (only {A = A} 19) h
         go (x ∷ r) h l e =
-            ap (λ (b : Bool). view {A = A} c (cond b (used c (f l) t) (record { number = 19; given = none; table = t }))) (by_list (x ∷ r) h)
-            ∙ ap (λ (y : List (Option ℕ)). record { number = 0; given = some (f l).answer; after = y }) (keep (f l).keep (by_list (x ∷ r) h))
+            ap (λ (b : Bool). view {A = A} c (cond b (used c (f l) t) (record { number = 19; given = None; table = t }))) (by_list (x ∷ r) h)
+            ∙ ap (λ (y : List (Option ℕ)). record { number = 0; given = Some (f l).answer; after = y }) (keep (f l).keep (by_list (x ∷ r) h))
             ∙ ap₂ (λ (y : Option ℕ) (z : List (Option ℕ)). taken (f y) z) (e ∙ ap first h) h

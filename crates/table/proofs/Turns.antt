@@ -3,40 +3,40 @@ use Prim.Native.Nat.{ℕ, suc, ◌+◌, ◌≤◌, ◌<◌}
 use native.Mathlib.Omega.{arith}
 use native.Mathlib.Numerals.{add-one}
 use mathlib.Core.Path.{◌≡◌, refl, sym, ap, ◌∙◌}
-use mathlib.Core.Bool.{Bool, true, false, not, ◌||◌, cond}
+use mathlib.Core.Bool.{Bool, true, false, not, ◌&&◌, ◌||◌, cond}
 use mathlib.Core.List.{List, [], ◌∷◌, ◌++◌}
+use lib.Dec.{eqb, ltb}
 use lib.ListN.{length, get_or, take, drop, set, drop_of_length-le}
+use lib.Pointwise.{pointwise}
 use lib.Seq.{drop-cons, take-suc-set, drop-set-lt, take_all, append_snoc}
-use borrow.Author.Tests.{eq-eqb, ne_eqb, not-true, not-false}
+use borrow.Author.Tests.{ltb-true, ltb-false, not-true, not-false}
+use Rattle.std.specs.Prelude.{Option, Some, None, Result, Ok, Err}
+use Rattle.answers.specs.declared.Refusal.{Refusal}
+use Rattle.answers.specs.declared.Refusal.TheVariants.{UnknownCard, AlreadyHeld, TableFull}
+use Rattle.std.specs.Bool.{then_some}
+use Rattle.std.specs.Option.{ok_or}
+use Rattle.std.specs.List.{list_any, find, position, position_or_len}
 use Rattle.octets.specs.Same.{same}
+use Rattle.octets.proofs.PointwiseLaws.{pointwise_same}
 use Rattle.table.specs.declared.CardId.{CardId}
 use Rattle.table.specs.declared.Entry.{Entry}
-use Rattle.table.specs.declared.Changed.{Changed}
-use Rattle.table.specs.Table.{same_id, names, held, room}
-use Rattle.table.specs.Calls.{changed, fresh, empty, placed, adding, each, cleared_entry, forgetting, kept_entry, keeping, reading}
-use Rattle.table.specs.Inner.{free_place}
+use Rattle.table.specs.Table.{same_id, names, held, room, counter_of}
+use Rattle.table.specs.Calls.{fresh, empty, placed, adding, each, cleared_entry, forgetting, kept_entry, keeping, reading}
 
--- whether two cards are the same
-pub id_count : (a b : CardId) → (a.count ≡ b.count → ⊥) → false ≡ same_id a b
+-- the derived test: digits, count, sequence
+swapped : (p q r : Bool) → (p && (q && r)) ≡ (q && (r && p))
+swapped true true true = refl
+swapped true true false = refl
+swapped true false r = refl
+swapped false true true = refl
+swapped false true false = refl
+swapped false false r = refl
+
+pub id_derived : (a b : CardId) → (pointwise eqb a.digits b.digits && (eqb a.count b.count && eqb a.sequence b.sequence)) ≡ same_id a b
 unfolding same_id
-id_count a b h = rw (ne_eqb _ _ h)
-
-pub id_sequence : (a b : CardId) → a.count ≡ b.count → (a.sequence ≡ b.sequence → ⊥) → false ≡ same_id a b
-unfolding same_id
-id_sequence a b h k = rw (eq-eqb _ _ h, ne_eqb _ _ k)
-
-pub id_digits : (a b : CardId) (r : Bool) → a.count ≡ b.count → a.sequence ≡ b.sequence → r ≡ same a.digits b.digits → r ≡ same_id a b
-unfolding same_id
-id_digits a b r h k e = rw (eq-eqb _ _ h, eq-eqb _ _ k) e
-
--- whether a place holds a card
-pub for_none : (c : CardId) (e : Entry) → not e.held ≡ true → false ≡ names c e
-unfolding names
-for_none c e h = rw (not-true e.held h)
-
-pub for_one : (c : CardId) (e : Entry) (r : Bool) → not e.held ≡ false → r ≡ same_id c e.id → r ≡ names c e
-unfolding names
-for_one c e r h k = rw (not-false e.held h) k
+id_derived a b =
+    ap (λ (p : Bool). p && (eqb a.count b.count && eqb a.sequence b.sequence)) (pointwise_same a.digits b.digits)
+    ∙ swapped (same a.digits b.digits) (eqb a.count b.count) (eqb a.sequence b.sequence)
 
 -- a place after a card is forgotten, and after a counter is kept
 module _ (c : CardId) (e : Entry) (b : Bool) (w : b ≡ names c e) where
@@ -56,46 +56,37 @@ module _ (c : CardId) (e : Entry) (b : Bool) (w : b ≡ names c e) where
   unfolding kept_entry
   kept_no n h = rw (sym w ∙ h)
 
--- from place i on
-module _ (t : List Entry) (i : ℕ) (d : Entry) (p : i < length t) where
-  module _ (c : CardId) (b : Bool) (w : b ≡ names c (get_or t i d)) where
-    pub held_yes : b ≡ true → held c t ≡ held c (drop i t) → true ≡ held c t
-    unfolding held
-    held_yes h v = sym (v ∙ rw (drop-cons t i d) (rw (sym w ∙ h)))
+pub then_counter : (e : Entry) → then_some e.known e.last ≡ counter_of e
+unfolding counter_of
+then_counter e = go e.known
+  where
+    go : (b : Bool) → then_some b e.last ≡ cond b (Some e.last) None
+    go true = refl
+    go false = refl
 
-    pub held_on : b ≡ false → held c t ≡ held c (drop i t) → held c t ≡ held c (drop (i + 1) t)
-    unfolding held
-    held_on h v = v ∙ rw (add-one, drop-cons t i d) (rw (sym w ∙ h))
-
-    pub reading_yes : b ≡ true → reading c t ≡ reading c (drop i t) → record { code = 0; known = (get_or t i d).known; last = (get_or t i d).last } ≡ reading c t
-    unfolding reading
-    reading_yes h v = sym (v ∙ rw (drop-cons t i d) (rw (sym w ∙ h)))
-
-    pub reading_on : b ≡ false → reading c t ≡ reading c (drop i t) → reading c t ≡ reading c (drop (i + 1) t)
-    unfolding reading
-    reading_on h v = v ∙ rw (add-one, drop-cons t i d) (rw (sym w ∙ h))
-
-  pub free_here : not (get_or t i d).held ≡ true → free_place t ≡ i + free_place (drop i t) → i ≡ free_place t
-  unfolding free_place
-  free_here h v = let e : free_place (drop i t) ≡ 0 = rw (drop-cons t i d) (rw (not-true (get_or t i d).held h)) in omega arith
-
-  pub free_on : not (get_or t i d).held ≡ false → free_place t ≡ i + free_place (drop i t) → free_place t ≡ i + 1 + free_place (drop (i + 1) t)
-  unfolding free_place
-  free_on h v =
-      let e : free_place (drop i t) ≡ suc (free_place (drop (i + 1) t)) = rw (add-one, drop-cons t i d) (rw (not-false (get_or t i d).held h)) in
-      omega (arith, add-one (free_place (drop (i + 1) t)))
-
-pub held_end : (c : CardId) (t : List Entry) (i : ℕ) → length t ≤ i → held c t ≡ held c (drop i t) → false ≡ held c t
+-- what the searches through the places find
+pub held_any : (c : CardId) (t : List Entry) → list_any (names c) t ≡ held c t
 unfolding held
-held_end c t i h v = sym (v ∙ ap (held c) (drop_of_length-le t {i = i} h))
+held_any c [] = refl
+held_any c (e ∷ t) = ap (λ (r : Bool). names c e || r) (held_any c t)
 
-pub reading_end : (c : CardId) (t : List Entry) (i : ℕ) → length t ≤ i → reading c t ≡ reading c (drop i t) → record { code = 19; known = false; last = 0 } ≡ reading c t
+pub reading_first : (c : CardId) (t : List Entry) (e : Entry) → find (names c) t ≡ Some e → Ok (counter_of e) ≡ reading c t
 unfolding reading
-reading_end c t i h v = sym (v ∙ ap (reading c) (drop_of_length-le t {i = i} h))
+reading_first c [] e h = absurd (cc)
+reading_first c (x ∷ t) e h = go (names c x) h (reading_first c t e)
+  where
+    go : (b : Bool) → cond b (Some x) (find (names c) t) ≡ Some e → (find (names c) t ≡ Some e → Ok (counter_of e) ≡ reading c t) → Ok (counter_of e) ≡ cond b (Ok (counter_of x)) (reading c t)
+    go true k ih = let f : e ≡ x = cc in rw f
+    go false k ih = ih k
 
-pub free_end : (t : List Entry) (i : ℕ) → length t ≤ i → free_place t ≡ i + free_place (drop i t) → i ≡ free_place t
-unfolding free_place
-free_end t i h v = let e : free_place (drop i t) ≡ 0 = ap free_place (drop_of_length-le t {i = i} h) in omega arith
+pub reading_none : (c : CardId) (t : List Entry) → find (names c) t ≡ None → Err UnknownCard ≡ reading c t
+unfolding reading
+reading_none c [] h = refl
+reading_none c (x ∷ t) h = go (names c x) h (reading_none c t)
+  where
+    go : (b : Bool) → cond b (Some x) (find (names c) t) ≡ None → (find (names c) t ≡ None → Err UnknownCard ≡ reading c t) → Err UnknownCard ≡ cond b (Ok (counter_of x)) (reading c t)
+    go true k ih = absurd (cc)
+    go false k ih = ih k
 
 -- the same at each place: done before i, left from i on
 pub each_turn : (f : Entry → Entry) (t : List Entry) (i : ℕ) (d v : Entry) → i < length t → v ≡ f (get_or t i d)
@@ -113,65 +104,99 @@ each_end f t i h = rw (drop_of_length-le t {i = i} h, take_all i t h) (go t)
     go (x ∷ l) = ap (λ (z : List Entry). x ∷ z) (go l)
 
 -- the first free place
-pub no_room : (t : List Entry) → free_place t ≡ length t → room t ≡ false
-unfolding free_place room
-no_room [] h = refl
-no_room (e ∷ t) h = go e.held h (no_room t)
-  where
-    go : (b : Bool) → cond b (suc (free_place t)) 0 ≡ suc (length t) → (free_place t ≡ length t → room t ≡ false) → (not b || room t) ≡ false
-    go true p ih = ih (omega (arith, p, add-one (free_place t), add-one (length t)))
-    go false p ih = let w : ⊥ = omega (arith, p, add-one (length t)) in absurd w
+abbrev free : Entry → Bool
+free e = not e.held
 
-pub free_placed : (c : CardId) (t : List Entry) → (free_place t ≡ length t → ⊥) → (room t ≡ true) × (set t (free_place t) (fresh c) ≡ placed c t)
-unfolding free_place room placed
-free_placed c [] h = absurd (h refl)
-free_placed c (e ∷ t) h = go e.held h (free_placed c t)
-  where
-    go : (b : Bool) → (cond b (suc (free_place t)) 0 ≡ suc (length t) → ⊥) → ((free_place t ≡ length t → ⊥) → (room t ≡ true) × (set t (free_place t) (fresh c) ≡ placed c t))
-        → ((not b || room t) ≡ true) × (set (e ∷ t) (cond b (suc (free_place t)) 0) (fresh c) ≡ cond b (e ∷ placed c t) (fresh c ∷ t))
-    go true p ih =
-        let x = ih (λ q. p (ap suc q)) in
-        (x.0, ap (λ (z : List Entry). e ∷ z) x.1)
-    go false p ih = (refl, refl)
+add-one′ : (n : ℕ) → 1 + n ≡ suc n
+add-one′ n = omega (arith, add-one n)
 
-free_le : (t : List Entry) → free_place t ≤ length t
-unfolding free_place
+free_le : (t : List Entry) → position_or_len free t ≤ length t
 free_le [] = omega arith
 free_le (e ∷ t) = go e.held (free_le t)
   where
-    go : (b : Bool) → free_place t ≤ length t → cond b (suc (free_place t)) 0 ≤ suc (length t)
-    go true p = omega (arith, add-one (free_place t), add-one (length t))
+    go : (b : Bool) → position_or_len free t ≤ length t → cond (not (not b)) (1 + position_or_len free t) 0 ≤ suc (length t)
+    go true p = omega (arith, add-one (length t))
     go false p = omega arith
 
+no_room : (t : List Entry) → position_or_len free t ≡ length t → room t ≡ false
+unfolding room
+no_room [] h = refl
+no_room (e ∷ t) h = go e.held h (no_room t)
+  where
+    go : (b : Bool) → cond (not (not b)) (1 + position_or_len free t) 0 ≡ suc (length t) → (position_or_len free t ≡ length t → room t ≡ false) → (not b || room t) ≡ false
+    go true p ih = ih (omega (arith, p, add-one (length t)))
+    go false p ih = let w : ⊥ = omega (arith, p, add-one (length t)) in absurd w
+
+free_placed : (c : CardId) (t : List Entry) → (position_or_len free t ≡ length t → ⊥) → (room t ≡ true) × (set t (position_or_len free t) (fresh c) ≡ placed c t)
+unfolding room placed
+free_placed c [] h = absurd (h refl)
+free_placed c (e ∷ t) h = go e.held h (free_placed c t)
+  where
+    go : (b : Bool) → (cond (not (not b)) (1 + position_or_len free t) 0 ≡ suc (length t) → ⊥)
+        → ((position_or_len free t ≡ length t → ⊥) → (room t ≡ true) × (set t (position_or_len free t) (fresh c) ≡ placed c t))
+        → ((not b || room t) ≡ true) × (set (e ∷ t) (cond (not (not b)) (1 + position_or_len free t) 0) (fresh c) ≡ cond b (e ∷ placed c t) (fresh c ∷ t))
+    go true p ih =
+        let x = ih (λ q. p (add-one′ _ ∙ ap suc q)) in
+        (x.0, rw (add-one′ (position_or_len free t)) (ap (λ (z : List Entry). e ∷ z) x.1))
+    go false p ih = (refl, refl)
+
+pub full : (t : List Entry) → position free t ≡ None → room t ≡ false
+full t h = go (ltb (position_or_len free t) (length t)) refl h
+  where
+    go : (b : Bool) → ltb (position_or_len free t) (length t) ≡ b → cond b (Some (position_or_len free t)) None ≡ None → room t ≡ false
+    go true e k = absurd (cc)
+    go false e k = no_room t (let m = ltb-false _ _ e in let l = free_le t in omega arith)
+
+pub found : (c : CardId) (t : List Entry) (i : ℕ) → position free t ≡ Some i → (room t ≡ true) × (set t i (fresh c) ≡ placed c t)
+found c t i h = go (ltb (position_or_len free t) (length t)) refl h
+  where
+    go : (b : Bool) → ltb (position_or_len free t) (length t) ≡ b → cond b (Some (position_or_len free t)) None ≡ Some i → (room t ≡ true) × (set t i (fresh c) ≡ placed c t)
+    go true e k =
+        let l = ltb-true _ _ e in
+        let z = free_placed c t (λ q. omega arith) in
+        let f : position_or_len free t ≡ i = cc in
+        (z.0, rw (sym f) z.1)
+    go false e k = absurd (cc)
+
 -- the calls
-module _ (c : CardId) (t : List Entry) (b : Bool) (w : b ≡ held c t) (r : Changed) where
-  pub add_held : b ≡ true → r ≡ changed 20 t → r ≡ adding c t
+module _ (c : CardId) (t : List Entry) (b : Bool) (w : b ≡ held c t) where
+  pub add_held : b ≡ true → Err AlreadyHeld ≡ adding c t
   unfolding adding
-  add_held h e = e ∙ rw (sym w ∙ h)
+  add_held h = rw (sym w ∙ h)
 
-  pub add_full : b ≡ false → (i : ℕ) → i ≡ free_place t → length t ≡ 64 → 64 ≤ i → r ≡ changed 21 t → r ≡ adding c t
-  unfolding adding
-  add_full h i f g k e = e ∙ rw (sym w ∙ h, no_room t (let l = free_le t in omega arith))
+  module _ (h : b ≡ false) (o : Option ℕ) (f : o ≡ position free t) (r : Result ℕ Refusal) (v : r ≡ ok_or o TableFull) where
+    pub add_no_room : (q : Refusal) → r ≡ Err q → Err q ≡ adding c t
+    unfolding adding
+    add_no_room q k = go o f (sym v ∙ k)
+      where
+        go : (o : Option ℕ) → o ≡ position free t → ok_or o TableFull ≡ Err q → Err q ≡ cond (held c t) (Err AlreadyHeld) (cond (room t) (Ok (placed c t)) (Err TableFull))
+        go None e l = let g : q ≡ TableFull = cc in rw (sym w ∙ h, full t (sym e)) (ap Err g)
+        go (Some i) e l = absurd (cc)
 
-  pub add_done : b ≡ false → (i : ℕ) (x : Entry) → i ≡ free_place t → i < length t → x ≡ fresh c → r ≡ changed 0 (set t i x) → r ≡ adding c t
-  unfolding adding
-  add_done h i x f g y e =
-      let z = free_placed c t (λ q. omega arith) in
-      e ∙ rw (sym w ∙ h, z.0) (ap (changed 0) (rw (f, y) z.1))
+    pub add_done : (i : ℕ) (x : Entry) → r ≡ Ok i → x ≡ fresh c → Ok (set t i x) ≡ adding c t
+    unfolding adding
+    add_done i x k y = go o f (sym v ∙ k)
+      where
+        go : (o : Option ℕ) → o ≡ position free t → ok_or o TableFull ≡ Ok i → Ok (set t i x) ≡ cond (held c t) (Err AlreadyHeld) (cond (room t) (Ok (placed c t)) (Err TableFull))
+        go None e l = absurd (cc)
+        go (Some j) e l =
+            let g : j ≡ i = cc in
+            let z = found c t i (sym e ∙ ap Some g) in
+            rw (sym w ∙ h, z.0) (ap Ok (rw y z.1))
 
-  pub forget_none : not b ≡ true → r ≡ changed 19 t → r ≡ forgetting c t
+  pub forget_none : not b ≡ true → Err UnknownCard ≡ forgetting c t
   unfolding forgetting
-  forget_none h e = e ∙ rw (sym w ∙ not-true _ h)
+  forget_none h = rw (sym w ∙ not-true _ h)
 
-  pub keep_none : (n : ℕ) → not b ≡ true → r ≡ changed 19 t → r ≡ keeping c n t
+  pub keep_none : (n : ℕ) → not b ≡ true → Err UnknownCard ≡ keeping c n t
   unfolding keeping
-  keep_none n h e = e ∙ rw (sym w ∙ not-true _ h)
+  keep_none n h = rw (sym w ∙ not-true _ h)
 
-  module _ (h : not b ≡ false) (u : List Entry) (i : ℕ) (l : length u ≤ i) (e : r ≡ changed 0 u) where
-    pub forget_done : take i u ++ each (cleared_entry c) (drop i u) ≡ each (cleared_entry c) t → r ≡ forgetting c t
+  module _ (h : not b ≡ false) (u : List Entry) (i : ℕ) (l : length u ≤ i) where
+    pub forget_done : take i u ++ each (cleared_entry c) (drop i u) ≡ each (cleared_entry c) t → Ok u ≡ forgetting c t
     unfolding forgetting
-    forget_done v = e ∙ rw (sym w ∙ not-false _ h) (ap (changed 0) (sym (each_end (cleared_entry c) u i l) ∙ v))
+    forget_done v = rw (sym w ∙ not-false _ h) (ap Ok (sym (each_end (cleared_entry c) u i l) ∙ v))
 
-    pub keep_done : (n : ℕ) → take i u ++ each (kept_entry c n) (drop i u) ≡ each (kept_entry c n) t → r ≡ keeping c n t
+    pub keep_done : (n : ℕ) → take i u ++ each (kept_entry c n) (drop i u) ≡ each (kept_entry c n) t → Ok u ≡ keeping c n t
     unfolding keeping
-    keep_done n v = e ∙ rw (sym w ∙ not-false _ h) (ap (changed 0) (sym (each_end (kept_entry c n) u i l) ∙ v))
+    keep_done n v = rw (sym w ∙ not-false _ h) (ap Ok (sym (each_end (kept_entry c n) u i l) ∙ v))

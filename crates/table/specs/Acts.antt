@@ -1,13 +1,13 @@
 -- What the desk's calls do at the table, whatever else they compute: they add the card, forget it, or use it. A use sees the card's last counter, if any,
 -- gives an answer, and may give a counter to keep: checking and wrapping are uses. Assumes nothing.
-use Rattle.std.specs.Prelude.{ℕ, cond, List}
-use Rattle.std.proofs.Math.Option.{Option, none, some}
+use Rattle.std.specs.Prelude.{ℕ, cond, List, Option, None, Some, Result}
+use Rattle.std.specs.Result.{result_unwrap_or}
+use Rattle.answers.specs.declared.Refusal.{Refusal}
 use Rattle.answers.specs.declared.Refusal.TheVariants.{UnknownCard}
 use Rattle.answers.specs.Refusals.{number as number_of}
+use Rattle.answers.specs.Answers.{number_told}
 use Rattle.table.specs.declared.CardId.{CardId}
 use Rattle.table.specs.declared.Entry.{Entry}
-use Rattle.table.specs.declared.Changed.{Changed}
-use Rattle.table.specs.declared.Last.{Last}
 use Rattle.table.specs.Table.{held}
 use Rattle.table.specs.Calls.{adding, forgetting, keeping, reading}
 
@@ -26,20 +26,24 @@ pub record Outcome (A : Type 0) : Type 0 where
   pub given : Option A
   pub table : List Entry
 
-abbrev pub last_of : Last → Option ℕ
-last_of x = cond x.known (some x.last) none
+abbrev pub last_of : Result (Option ℕ) Refusal → Option ℕ
+last_of x = result_unwrap_or x None
+
+-- "a refusal changes no entry"
+abbrev pub table_after : Result (List Entry) Refusal → List Entry → List Entry
+table_after r t = result_unwrap_or r t
 
 abbrev pub kept_in : CardId → Option ℕ → List Entry → List Entry
-kept_in c none t = t
-kept_in c (some n) t = (keeping c n t).places
+kept_in c None t = t
+kept_in c (Some n) t = table_after (keeping c n t) t
 
-abbrev pub plainly : {A : Type 0} → Changed → Outcome A
-plainly r = record { number = r.code; given = none; table = r.places }
+abbrev pub plainly : {A : Type 0} → Result (List Entry) Refusal → List Entry → Outcome A
+plainly r t = record { number = number_told r; given = None; table = table_after r t }
 
 abbrev pub used : {A : Type 0} → CardId → Use A → List Entry → Outcome A
-used c u t = record { number = 0; given = some u.answer; table = kept_in c u.keep t }
+used c u t = record { number = 0; given = Some u.answer; table = kept_in c u.keep t }
 
 abbrev pub run : {A : Type 0} → Act A → CardId → List Entry → Outcome A
-run adds c t = plainly (adding c t)
-run forgets c t = plainly (forgetting c t)
-run (uses f) c t = cond (held c t) (used c (f (last_of (reading c t))) t) (record { number = number_of UnknownCard; given = none; table = t })
+run adds c t = plainly (adding c t) t
+run forgets c t = plainly (forgetting c t) t
+run (uses f) c t = cond (held c t) (used c (f (last_of (reading c t))) t) (record { number = number_of UnknownCard; given = None; table = t })

@@ -1,15 +1,10 @@
--- What is done at a table, for every table (Wish 7: "19 unknown card, 20 card already held, 21 no room"; "a refusal changes no entry"). Assumes nothing.
-use Rattle.std.specs.Prelude.{ℕ, true, false, cond, List, [], ◌∷◌, replicate}
+-- What is done at a table, for every table (Wish 7: "19 unknown card, 20 card already held, 21 no room"): the places after it, or why it is refused. Assumes nothing.
+use Rattle.std.specs.Prelude.{ℕ, true, false, cond, List, [], ◌∷◌, replicate, Option, Result, Ok, Err}
+use Rattle.answers.specs.declared.Refusal.{Refusal}
 use Rattle.answers.specs.declared.Refusal.TheVariants.{UnknownCard, AlreadyHeld, TableFull}
-use Rattle.answers.specs.Refusals.{number}
 use Rattle.table.specs.declared.CardId.{CardId}
 use Rattle.table.specs.declared.Entry.{Entry}
-use Rattle.table.specs.declared.Changed.{Changed}
-use Rattle.table.specs.declared.Last.{Last}
-use Rattle.table.specs.Table.{names, held, room}
-
-abbrev pub changed : ℕ → List Entry → Changed
-changed n t = record { code = n; places = t }
+use Rattle.table.specs.Table.{names, held, room, counter_of}
 
 -- "A forgotten card added again starts with no last counter": the place of a card that is added
 abbrev pub fresh : CardId → Entry
@@ -25,8 +20,8 @@ placed c [] = []
 placed c (e ∷ t) = cond e.held (e ∷ placed c t) (fresh c ∷ t)
 
 -- "adding checks 2, 20, 21"
-unfoldable pub adding : CardId → List Entry → Changed
-adding c t = cond (held c t) (changed (number AlreadyHeld) t) (cond (room t) (changed 0 (placed c t)) (changed (number TableFull) t))
+unfoldable pub adding : CardId → List Entry → Result (List Entry) Refusal
+adding c t = cond (held c t) (Err AlreadyHeld) (cond (room t) (Ok (placed c t)) (Err TableFull))
 
 -- the same at each place
 unfoldable pub each : (Entry → Entry) → List Entry → List Entry
@@ -37,17 +32,17 @@ unfoldable pub cleared_entry : CardId → Entry → Entry
 cleared_entry c e = cond (names c e) empty e
 
 -- "A card can be forgotten, and its room is used for the next": every place that holds it is empty
-unfoldable pub forgetting : CardId → List Entry → Changed
-forgetting c t = cond (held c t) (changed 0 (each (cleared_entry c) t)) (changed (number UnknownCard) t)
+unfoldable pub forgetting : CardId → List Entry → Result (List Entry) Refusal
+forgetting c t = cond (held c t) (Ok (each (cleared_entry c) t)) (Err UnknownCard)
 
 unfoldable pub kept_entry : CardId → ℕ → Entry → Entry
 kept_entry c n e = cond (names c e) (record { held = e.held; id = e.id; known = true; last = n }) e
 
 -- a counter is kept for a card, at every place that holds it
-unfoldable pub keeping : CardId → ℕ → List Entry → Changed
-keeping c n t = cond (held c t) (changed 0 (each (kept_entry c n) t)) (changed (number UnknownCard) t)
+unfoldable pub keeping : CardId → ℕ → List Entry → Result (List Entry) Refusal
+keeping c n t = cond (held c t) (Ok (each (kept_entry c n) t)) (Err UnknownCard)
 
--- the last counter, at the first place that holds the card
-unfoldable pub reading : CardId → List Entry → Last
-reading c [] = record { code = number UnknownCard; known = false; last = 0 }
-reading c (e ∷ t) = cond (names c e) (record { code = 0; known = e.known; last = e.last }) (reading c t)
+-- the last counter, if any, at the first place that holds the card
+unfoldable pub reading : CardId → List Entry → Result (Option ℕ) Refusal
+reading c [] = Err UnknownCard
+reading c (e ∷ t) = cond (names c e) (Ok (counter_of e)) (reading c t)

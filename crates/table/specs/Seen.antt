@@ -1,6 +1,5 @@
 -- What a call gives, by the readings of its own card and whether there is room: nothing else of the table is looked at. Assumes nothing.
-use Rattle.std.specs.Prelude.{ℕ, Bool, true, false, List, [], ◌∷◌}
-use Rattle.std.proofs.Math.Option.{Option, none, some}
+use Rattle.std.specs.Prelude.{ℕ, Bool, true, false, List, [], ◌∷◌, Option, None, Some}
 use Rattle.answers.specs.declared.Refusal.TheVariants.{UnknownCard, AlreadyHeld, TableFull}
 use Rattle.answers.specs.Refusals.{number as number_of}
 use Rattle.table.specs.declared.CardId.{CardId}
@@ -12,17 +11,17 @@ is_some [] = false
 is_some (x ∷ r) = true
 
 abbrev pub first : List (Option ℕ) → Option ℕ
-first [] = none
+first [] = None
 first (x ∷ r) = x
 
 -- a counter over every reading
 abbrev pub over : ℕ → List (Option ℕ) → List (Option ℕ)
 over n [] = []
-over n (x ∷ r) = some n ∷ over n r
+over n (x ∷ r) = Some n ∷ over n r
 
 abbrev pub over_by : Option ℕ → List (Option ℕ) → List (Option ℕ)
-over_by none r = r
-over_by (some n) r = over n r
+over_by None r = r
+over_by (Some n) r = over n r
 
 -- number, answer, and the card's readings after the call
 pub record Seen (A : Type 0) : Type 0 where
@@ -31,13 +30,13 @@ pub record Seen (A : Type 0) : Type 0 where
   pub after : List (Option ℕ)
 
 abbrev pub only : {A : Type 0} → ℕ → List (Option ℕ) → Seen A
-only n r = record { number = n; given = none; after = r }
+only n r = record { number = n; given = None; after = r }
 
 abbrev pub taken : {A : Type 0} → Use A → List (Option ℕ) → Seen A
-taken u r = record { number = 0; given = some u.answer; after = over_by u.keep r }
+taken u r = record { number = 0; given = Some u.answer; after = over_by u.keep r }
 
 abbrev pub seen : {A : Type 0} → Act A → List (Option ℕ) → Bool → Seen A
-seen adds [] true = only 0 (none ∷ [])
+seen adds [] true = only 0 (None ∷ [])
 seen adds [] false = only (number_of TableFull) []
 seen adds (x ∷ r) b = only (number_of AlreadyHeld) (x ∷ r)
 seen forgets [] b = only (number_of UnknownCard) []

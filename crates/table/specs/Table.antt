@@ -1,7 +1,6 @@
 -- A table of places (Wish 7: "It keeps up to 64 cards by number and sequence (absent is 00), each with its last transaction counter"). A table is the
 -- list of its entries; every list is one, also one that holds a card twice. Assumes nothing.
-use Rattle.std.specs.Prelude.{ℕ, ◌+◌, Bool, false, not, ◌&&◌, ◌||◌, cond, List, [], ◌∷◌, eqb}
-use Rattle.std.proofs.Math.Option.{Option, none, some}
+use Rattle.std.specs.Prelude.{ℕ, ◌+◌, Bool, false, not, ◌&&◌, ◌||◌, cond, List, [], ◌∷◌, eqb, Option, None, Some}
 use Rattle.octets.specs.Same.{same}
 use Rattle.table.specs.declared.CardId.{CardId}
 use Rattle.table.specs.declared.Entry.{Entry}
@@ -26,7 +25,7 @@ room (e ∷ t) = not e.held || room t
 
 -- the last counter that a place keeps, if any
 unfoldable pub counter_of : Entry → Option ℕ
-counter_of e = cond e.known (some e.last) none
+counter_of e = cond e.known (Some e.last) None
 
 -- what is kept of c: the last counter, if any, at each place that holds it. Empty where c is not held, one reading where it is held once
 unfoldable pub readings : CardId → List Entry → List (Option ℕ)

@@ -2,14 +2,13 @@
 #![tactic(auto)]
 
 ghost use Rattle.std.specs.Prelude.{◌≡◌};
-ghost use Rattle.table.specs.Table.{same_id, names, held as heldIn};
-ghost use Rattle.table.specs.Calls.{fresh as freshFor, cleared_entry, kept_entry, changed, adding, forgetting, reading, keeping};
-ghost use Rattle.table.specs.Inner.{free_place};
+ghost use Rattle.table.specs.Table.{names, held as heldIn, counter_of as counterOf};
+ghost use Rattle.table.specs.Calls.{fresh as freshFor, cleared_entry, kept_entry, adding, forgetting, reading, keeping};
 
 use answers::Refusal;
 
 // A card by number and sequence: its digits and zeros after them, how many digits there are, and the sequence number (0 where there is none).
-#[derive(Clone, Copy)]
+#[derive(Clone, Copy, PartialEq, Eq)]
 pub struct CardId {
     pub digits: [u8; 19],
     pub count: u8,
@@ -25,76 +24,31 @@ pub struct Entry {
     pub last: u16,
 }
 
-// The places after a call, and its number.
-#[derive(Clone, Copy)]
-pub struct Changed {
-    pub code: u8,
-    pub places: [Entry; 64],
-}
-
-// Whether a card has a last counter, and which; zeros where there is none or the call is refused.
-#[derive(Clone, Copy)]
-pub struct Last {
-    pub code: u8,
-    pub known: bool,
-    pub last: u16,
-}
-
-// Whether two cards are the same.
-pub fn same_id(a: CardId, b: CardId) -> bool
-    ensures { result ≡ same_id a b }
-{
-    if a.count != b.count {
-        return false;
-    }
-    if a.sequence != b.sequence {
-        return false;
-    }
-    let x = a.digits;
-    let y = b.digits;
-    octets::same(&x, &y)
-}
-
 // Whether a place holds a card.
 fn is_for(e: Entry, c: CardId) -> bool
     ensures { result ≡ names c e }
 {
-    if !e.held {
-        return false;
-    }
-    let d = e.id;
-    same_id(c, d)
+    e.held && c == e.id
 }
 
 // Whether a card is held.
 pub fn is_held(places: [Entry; 64], c: CardId) -> bool
     ensures { result ≡ heldIn c places }
 {
-    let mut i = 0;
-    while i < 64 {
-        let e = places[i];
-        if is_for(e, c) {
-            return true;
-        }
-        i += 1;
-    }
-    false
+    places.iter().any(|e| is_for(*e, c))
 }
 
-// The first place that holds no card, 64 where there is none.
-fn free_place(places: [Entry; 64]) -> usize
-    ensures { result ≡ free_place places }
-{
-    let mut i = 0;
-    while i < 64 {
-        let e = places[i];
-        if !e.held {
-            return i;
-        }
-        i += 1;
-    }
-    64
-}
+// An empty place.
+const EMPTY: Entry = Entry {
+    held: false,
+    id: CardId {
+        digits: [0; 19],
+        count: 0,
+        sequence: 0,
+    },
+    known: false,
+    last: 0,
+};
 
 // A card's place when it is added: no last counter.
 fn fresh(c: CardId) -> Entry
@@ -112,19 +66,7 @@ fn fresh(c: CardId) -> Entry
 fn without(e: Entry, c: CardId) -> Entry
     ensures { result ≡ cleared_entry c e }
 {
-    if is_for(e, c) {
-        return Entry {
-            held: false,
-            id: CardId {
-                digits: [0; 19],
-                count: 0,
-                sequence: 0,
-            },
-            known: false,
-            last: 0,
-        };
-    }
-    e
+    if is_for(e, c) { EMPTY } else { e }
 }
 
 // A place after a counter is kept for a card.
@@ -134,83 +76,64 @@ fn with(mut e: Entry, c: CardId, counter: u16) -> Entry
     if is_for(e, c) {
         e.known = true;
         e.last = counter;
-        return e;
     }
     e
 }
 
-fn left(places: [Entry; 64], code: u8) -> Changed
-    ensures { result ≡ changed code places }
+// The last counter that a place keeps, if any.
+fn counter_of(e: Entry) -> Option<u16>
+    ensures { result ≡ counterOf e }
 {
-    Changed { code, places }
+    e.known.then_some(e.last)
 }
 
 // Adds a card: 20 if it is held, 21 if there is no room.
-pub fn add(mut places: [Entry; 64], c: CardId) -> Changed
+pub fn add(mut places: [Entry; 64], c: CardId) -> Result<[Entry; 64], Refusal>
     ensures { result ≡ adding c places }
 {
     if is_held(places, c) {
-        return left(places, Refusal::ALREADY_HELD);
+        return Err(Refusal::AlreadyHeld);
     }
-    let i = free_place(places);
-    if i >= 64 {
-        return left(places, Refusal::TABLE_FULL);
-    }
+    let i = places
+        .iter()
+        .position(|e| !e.held)
+        .ok_or(Refusal::TableFull)?;
     places[i] = fresh(c);
-    left(places, 0)
+    Ok(places)
 }
 
 // Forgets a card, at every place that holds it: 19 if none does.
-pub fn forget(mut places: [Entry; 64], c: CardId) -> Changed
+pub fn forget(mut places: [Entry; 64], c: CardId) -> Result<[Entry; 64], Refusal>
     ensures { result ≡ forgetting c places }
 {
     if !is_held(places, c) {
-        return left(places, Refusal::UNKNOWN_CARD);
+        return Err(Refusal::UnknownCard);
     }
-    let mut i = 0;
-    while i < 64 {
-        let e = places[i];
-        places[i] = without(e, c);
-        i += 1;
+    for e in places.iter_mut() {
+        *e = without(*e, c);
     }
-    left(places, 0)
+    Ok(places)
 }
 
-// The last counter of a card, at the first place that holds it: 19 if none does.
-pub fn last_of(places: [Entry; 64], c: CardId) -> Last
+// The last counter of a card, if any, at the first place that holds it: 19 if none does.
+pub fn last_of(places: [Entry; 64], c: CardId) -> Result<Option<u16>, Refusal>
     ensures { result ≡ reading c places }
 {
-    let mut i = 0;
-    while i < 64 {
-        let e = places[i];
-        if is_for(e, c) {
-            return Last {
-                code: 0,
-                known: e.known,
-                last: e.last,
-            };
-        }
-        i += 1;
-    }
-    Last {
-        code: Refusal::UNKNOWN_CARD,
-        known: false,
-        last: 0,
+    match places.iter().find(|e| is_for(**e, c)) {
+        Some(e) => Ok(counter_of(*e)),
+        None => Err(Refusal::UnknownCard),
     }
 }
 
 // Keeps a counter for a card, at every place that holds it: 19 if none does.
-pub fn keep(mut places: [Entry; 64], c: CardId, counter: u16) -> Changed
+pub fn keep(mut places: [Entry; 64], c: CardId, counter: u16) -> Result<[Entry; 64], Refusal>
     ensures { result ≡ keeping c counter places }
 {
     if !is_held(places, c) {
-        return left(places, Refusal::UNKNOWN_CARD);
+        return Err(Refusal::UnknownCard);
     }
-    let mut i = 0;
-    while i < 64 {
-        let e = places[i];
-        places[i] = with(e, c, counter);
-        i += 1;
+    for e in places.iter_mut() {
+        *e = with(*e, c, counter);
     }
-    left(places, 0)
+    Ok(places)
 }

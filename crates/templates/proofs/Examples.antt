@@ -12,7 +12,7 @@ use Rattle.templates.specs.declared.Object.{Object}
 use Rattle.templates.specs.declared.Read.{Read}
 use Rattle.templates.specs.Grammar.{tag_bytes, head_size, object_at}
 use Rattle.templates.specs.Lent.{object_bytes}
-use Rattle.templates.specs.Reading.{stands, after, is_template, within, tag_in, ahead, head_for, head_of, length_fits, good, judged, no_object, begun, kept, stopped, entered, object_read, onward, read_for, read_all, reading}
+use Rattle.templates.specs.Reading.{stands, after, is_template, within, tag_in, ahead, head_for, head_of, length_fits, good, verdict, number_of_fault, place_of_fault, no_object, begun, kept, stopped, entered, object_read, onward, read_for, read_all, reading}
 
 -- number and place of the fault, and of each object its tag, level, place and length
 abbrev pub said : List Object → List ℕ
@@ -20,7 +20,7 @@ said [] = []
 said (o ∷ os) = o.tag ∷ o.level ∷ o.place ∷ o.length ∷ said os
 
 abbrev pub told : Read → List ℕ
-told r = r.code ∷ r.at ∷ said (take r.count r.objects)
+told r = number_of_fault r.fault ∷ place_of_fault r.fault ∷ said (take r.count r.objects)
 
 pub record Example : Type 0 where
   pub bytes : List ℕ
@@ -60,7 +60,7 @@ pub read_so : holds (
       answer = 16 ∷ 8 ∷ 0xe1 ∷ 1 ∷ 2 ∷ 8 ∷ 0xe1 ∷ 2 ∷ 4 ∷ 6 ∷ 0xe1 ∷ 3 ∷ 6 ∷ 4 ∷ 0xe1 ∷ 4 ∷ 8 ∷ 2 ∷ [];
     }
     ∷ []) ≡ true
-unfolding same largest largest_short length_field field_says length_of_under tag_bytes head_size object_at stands after is_template within tag_in ahead head_for head_of length_fits good judged no_object begun kept stopped entered object_read onward read_for read_all reading
+unfolding same largest largest_short length_field field_says length_of_under tag_bytes head_size object_at stands after is_template within tag_in ahead head_for head_of length_fits good verdict no_object begun kept stopped entered object_read onward read_for read_all reading
 read_so = refl
 
 -- n commands without data
@@ -100,7 +100,7 @@ pub faulted_so : faults (
     ∷ record { bytes = 0x71 ∷ 0x81 ∷ 0xff ∷ 0x86 ∷ 0x81 ∷ 0xfc ∷ replicate 252 0; answer = 0 ∷ 0 ∷ [] }
     ∷ record { bytes = 0x71 ∷ 0x82 ∷ 0 ∷ 2 ∷ 0x86 ∷ 0 ∷ []; answer = 16 ∷ 0 ∷ [] }
     ∷ []) ≡ true
-unfolding same largest largest_short length_field field_says length_of_under tag_bytes head_size object_at stands after is_template within tag_in ahead head_for head_of length_fits good judged no_object begun kept stopped entered object_read onward read_for read_all reading
+unfolding same largest largest_short length_field field_says length_of_under tag_bytes head_size object_at stands after is_template within tag_in ahead head_for head_of length_fits good verdict no_object begun kept stopped entered object_read onward read_for read_all reading
 faulted_so = refl
 
 -- an object as ten bytes

@@ -1,15 +1,13 @@
 -- Objects as bytes that are lent. Assumes nothing.
 use mathlib.Core.Path.{◌≡◌, refl, sym, ap, ap₂, ◌∙◌}
-use mathlib.Core.Bool.{Bool, true, false}
-use mathlib.Core.List.{List, [], ◌∷◌, ◌++◌}
-use Prim.Native.Nat.{ℕ, suc, ◌+◌, ◌-◌, ◌*◌, ◌/◌, ◌%◌, ◌≤◌, ◌<◌}
+use mathlib.Core.List.{List, [], ◌∷◌, ◌++◌, append_assoc, append-nil}
+use Prim.Native.Nat.{ℕ, ◌+◌, ◌*◌, ◌/◌, ◌%◌, ◌<◌}
 use native.Mathlib.Omega.{arith}
-use borrow.Author.Tests.{leb-true, leb-false}
-use lib.Dec.{leb}
-use lib.ListN.{length, get_or, set, length-append, get_or-append}
-use lib.Seq.{get_or-append-add, paste}
+use lib.ListN.{length, get_or, take, drop, length-append}
+use lib.Seq.{take_all, take_at, drop_at, drop-drop, length-take-le}
+use borrow.Rule.Slice.PartMut.{put_mid}
+use Rattle.std.proofs.lemmas.List.{take_more, drop_all}
 use Rattle.octets.specs.Numbers.{le_octets, be_octets}
-use Rattle.octets.proofs.Parts.{made_turn, made_end}
 use Rattle.templates.specs.declared.Object.{Object}
 use Rattle.templates.specs.Lent.{object_bytes, laid_objects}
 
@@ -33,42 +31,44 @@ length_laid_objects (o ∷ os) =
     let c = length_laid_objects os in
     omega arith
 
-turn : (o : Object) (os : List Object) (z : Object) (i : ℕ) (b : Bool) → leb 10 i ≡ b
-    → ((j : ℕ) → j < 10 * length os → get_or (object_bytes (get_or os (j / 10) z)) (j % 10) 0 ≡ get_or (laid_objects os) j 0)
-    → i < 10 * suc (length os) → get_or (object_bytes (get_or (o ∷ os) (i / 10) z)) (i % 10) 0 ≡ get_or (object_bytes o ++ laid_objects os) i 0
-turn o os z i false e f h =
-    let l : i < 10 = leb-false _ _ e in
-    let q : i / 10 ≡ 0 = omega arith in
-    let m : i % 10 ≡ i = omega arith in
-    ap₂ (λ (x y : ℕ). get_or (object_bytes (get_or (o ∷ os) x z)) y 0) q m
-    ∙ sym (get_or-append (object_bytes o) (laid_objects os) 0 i (let b = length_object_bytes o in omega arith))
-turn o os z i true e f h =
-    let g : 10 ≤ i = leb-true _ _ e in
-    let q : i / 10 ≡ suc ((i - 10) / 10) = omega arith in
-    let m : i % 10 ≡ (i - 10) % 10 = omega arith in
-    let n : length (object_bytes o) + (i - 10) ≡ i = let b = length_object_bytes o in omega arith in
-    ap₂ (λ (x y : ℕ). get_or (object_bytes (get_or (o ∷ os) x z)) y 0) q m
-    ∙ f (i - 10) (omega arith)
-    ∙ sym (get_or-append-add (object_bytes o) (laid_objects os) (i - 10) 0)
-    ∙ ap (λ (x : ℕ). get_or (object_bytes o ++ laid_objects os) x 0) n
-
--- octet i is one of object i / 10
-pub laid_at : (os : List Object) (z : Object) (i : ℕ) → i < 10 * length os
-    → get_or (object_bytes (get_or os (i / 10) z)) (i % 10) 0 ≡ get_or (laid_objects os) i 0
+laid_then : (xs ys : List Object) → laid_objects (xs ++ ys) ≡ laid_objects xs ++ laid_objects ys
 unfolding laid_objects
-laid_at [] z i h = absurd (omega (arith, h))
-laid_at (o ∷ os) z i h = turn o os z i (leb 10 i) refl (λ j k. laid_at os z j k) h
+laid_then [] ys = refl
+laid_then (o ∷ xs) ys = ap (λ (x : List ℕ). object_bytes o ++ x) (laid_then xs ys) ∙ sym (append_assoc (object_bytes o) (laid_objects xs) (laid_objects ys))
 
--- all 32, octet by octet
-pub laid_length : (os : List Object) → length os ≡ 32 → length (laid_objects os) ≡ 320
-laid_length os e = let a = length_laid_objects os in omega arith
+laid_one : (o : Object) → laid_objects (o ∷ []) ≡ object_bytes o
+unfolding laid_objects
+laid_one o = append-nil (object_bytes o)
 
-pub laid_turn : (os : List Object) (d out : List ℕ) (i : ℕ) (b : List ℕ) (z : Object) → length d ≡ 320 → length os ≡ 32 → i < 320
-    → out ≡ paste d 0 (laid_objects os) i → b ≡ object_bytes (get_or os (i / 10) z)
-    → set out i (get_or b (i % 10) 0) ≡ paste d 0 (laid_objects os) (i + 1)
-laid_turn os d out i b z n m l e f =
-    ap₂ (λ (x : List ℕ) (y : ℕ). set x i y) e (ap (λ (x : List ℕ). get_or x (i % 10) 0) f ∙ laid_at os z i (omega arith))
-    ∙ made_turn d (laid_objects os) i (get_or (laid_objects os) i 0) (omega arith) (let a = laid_length os m in omega arith) refl
+-- object by object
+pub laid_none : (os : List Object) (d : List ℕ) → d ≡ laid_objects (take 0 os) ++ drop (0 * 10) d
+unfolding laid_objects
+laid_none os d = refl
 
-pub laid_all : (os : List Object) (d out : List ℕ) (i : ℕ) → length d ≡ 320 → length os ≡ 32 → i ≡ 320 → out ≡ paste d 0 (laid_objects os) i → out ≡ laid_objects os
-laid_all os d out i n m e f = f ∙ ap (paste d 0 (laid_objects os)) e ∙ made_end d (laid_objects os) 320 n (laid_length os m)
+pub laid_turn : (os : List Object) (d out : List ℕ) (i k : ℕ) (z : Object) (b : List ℕ) → i < length os → out ≡ laid_objects (take i os) ++ drop (i * 10) d
+    → k ≡ 10 → b ≡ object_bytes (get_or os i z) → put_mid (i * 10) k out b ≡ laid_objects (take (i + 1) os) ++ drop ((i + 1) * 10) d
+laid_turn os d out i k z b h e m f =
+    let t = laid_objects (take i os) in
+    let o = object_bytes (get_or os i z) in
+    let n : length t ≡ i * 10 = let a = length_laid_objects (take i os) in let c = length-take-le i os (omega arith) in omega arith in
+    let rest : drop k (drop (i * 10) out) ≡ drop ((i + 1) * 10) d =
+    ap₂ (λ (x : ℕ) (y : List ℕ). drop x (drop (i * 10) y)) m e
+    ∙ ap (drop 10) (drop_at t (drop (i * 10) d) (i * 10) n)
+    ∙ drop-drop 10 (i * 10) d
+    ∙ ap (λ (x : ℕ). drop x d) (omega arith)
+    in
+    let first : take (i * 10) out ≡ t = ap (take (i * 10)) e ∙ take_at t (drop (i * 10) d) (i * 10) n in
+    let more : laid_objects (take (i + 1) os) ≡ t ++ o =
+    ap laid_objects (take_more os i z h) ∙ laid_then (take i os) (get_or os i z ∷ []) ∙ ap (λ (x : List ℕ). t ++ x) (laid_one (get_or os i z))
+    in
+    ap₂ (λ (x y : List ℕ). x ++ (b ++ y)) first rest
+    ∙ ap (λ (x : List ℕ). t ++ (x ++ drop ((i + 1) * 10) d)) f
+    ∙ sym (append_assoc t o (drop ((i + 1) * 10) d))
+    ∙ ap (λ (x : List ℕ). x ++ drop ((i + 1) * 10) d) (sym more)
+
+pub laid_all : (os : List Object) (d out : List ℕ) (i : ℕ) → length os ≡ 32 → length d ≡ 320 → i ≡ 32 → out ≡ laid_objects (take i os) ++ drop (i * 10) d
+    → out ≡ laid_objects os
+laid_all os d out i n m f e =
+    e
+    ∙ ap₂ (λ (x y : List ℕ). x ++ y) (ap laid_objects (take_all i os (omega arith))) (drop_all (i * 10) d (omega arith))
+    ∙ append-nil (laid_objects os)

@@ -7,3 +7,4 @@ pub mod DerivedLaws
 pub mod StatementLaws
 pub mod LentLaws
 pub mod Examples
+pub mod ObjectLaws

@@ -1,4 +1,5 @@
 -- The tree that bytes are written of: there is no other, and what is accepted has one. Assumes nothing.
+use Rattle.std.specs.Prelude.{Ok}
 use mathlib.Core.Path.{◌≡◌, refl, sym, ap, ap₂, subst, ◌∙◌}
 use mathlib.Core.Bool.{Bool, true, false, ◌&&◌, ◌||◌, cond, true≢false}
 use mathlib.Core.List.{List, [], ◌∷◌, ◌++◌}
@@ -18,7 +19,7 @@ use Rattle.templates.specs.declared.Holder.{Holder}
 use Rattle.templates.specs.declared.Holder.TheVariants.{Outer, Fresh, Begun}
 use Rattle.templates.specs.declared.Head.{Head}
 use Rattle.templates.specs.Grammar.{Kind, template1, template2, Script, Templates, nothing, script, outer, kind_tag, outer_tag, command_tag, identifier_tag, tag_bytes, object, written_identifier, written_commands, written_script, written, identifier_fits, commands_fit, script_fits, fits, head_size}
-use Rattle.templates.specs.Reading.{stands, tag_in, ahead, head_for, head_of, length_fits, good, judged}
+use Rattle.templates.specs.Reading.{stands, tag_in, ahead, head_for, head_of, length_fits, good, verdict}
 use Rattle.templates.proofs.HeadLaws.{both, Tagged, one, two, tagged, length-tag, head_size_lem, head_small, length-object, object_then, head_read, data_read, rest_read}
 use Rattle.templates.proofs.ReadLaws.{judged_parts}
 use Rattle.templates.proofs.TreeLaws.{four_small, script_most}
@@ -294,7 +295,7 @@ front_whole xs t n i j o m l =
     ∙ ap₂ (λ (u v : List ℕ). u ++ v) (ap (take (length (length_field n))) c ∙ f)
     (sym e ∙ sym (take-append-drop n (drop (head_size t n) xs)) ∙ ap (λ (v : List ℕ). take n (drop (head_size t n) xs) ++ v) (sym g)))
 
-pub front : (h : Holder) (l c : ℕ) (xs : List ℕ) → Octets xs → judged (good h (head_of xs) (length xs)) l c ≡ 0 → Front h l c xs
+pub front : (h : Holder) (l c : ℕ) (xs : List ℕ) → Octets xs → verdict (good h (head_of xs) (length xs)) l c ≡ Ok tt → Front h l c xs
 unfolding head_of head_for
 front h l c xs o e =
     let t = tag_in xs in

@@ -1,14 +1,19 @@
 -- Reading, step by step: the steps that it is given do not matter where there are as many as bytes, and each object goes on to the next. Assumes nothing.
 use mathlib.Core.Path.{◌≡◌, refl, sym, ap, ap₂, subst, ◌∙◌}
-use mathlib.Core.Bool.{Bool, true, false, not, cond}
+use mathlib.Core.Bool.{Bool, true, false, not, cond, true≢false}
 use mathlib.Core.List.{List, [], ◌∷◌}
 use Prim.Native.Nat.{ℕ, zero, suc, ◌+◌, ◌-◌, ◌*◌, ◌^◌, ◌≤◌, ◌<◌}
 use native.Mathlib.Nat.{not-suc-le-zero, le_refl}
 use native.Mathlib.Omega.{arith}
-use borrow.Author.Tests.{eqb-true, eq-eqb, ne_eqb, leb-true, le-leb, ltb-true, lt-ltb, not-true, not-false}
-use lib.Dec.{eqb, leb, ltb}
+use borrow.Author.Tests.{eq-eqb, ne_eqb, leb-true, le-leb, ltb-true, lt-ltb, not-true, not-false}
+use lib.Dec.{leb, ltb}
 use lib.ListN.{length, take, drop, length-drop, length-take}
 use lib.Seq.{take_all, length-take-le}
+use Rattle.std.specs.Prelude.{Option, Some, None, Result, Ok, Err}
+use Rattle.std.specs.Option.{is_some}
+use Rattle.answers.specs.declared.Refusal.{Refusal}
+use Rattle.answers.specs.declared.Refusal.TheVariants.{BadObject, TooDeep, TooMany}
+use Rattle.templates.specs.declared.Fault.{Fault}
 use Rattle.shapes.specs.Length.{largest}
 use Rattle.templates.specs.declared.Holder.{Holder}
 use Rattle.templates.specs.declared.Holder.TheVariants.{Outer}
@@ -16,7 +21,7 @@ use Rattle.templates.specs.declared.Head.{Head}
 use Rattle.templates.specs.declared.Object.{Object}
 use Rattle.templates.specs.declared.Read.{Read}
 use Rattle.templates.specs.Grammar.{head_size, object_at}
-use Rattle.templates.specs.Reading.{stands, after, is_template, within, head_for, head_of, length_fits, good, judged, begun, kept, stopped, Reader, entered, object_read, onward, read_for, read_all, reading}
+use Rattle.templates.specs.Reading.{stands, after, is_template, within, head_for, head_of, length_fits, good, verdict, begun, kept, stopped, Reader, entered, object_read, onward, read_for, read_all, reading}
 use Rattle.templates.proofs.HeadLaws.{both, head_small}
 
 -- the head of any bytes takes two to four of them
@@ -31,23 +36,31 @@ Agree k f g = (h : Holder) (l p : ℕ) (xs : List ℕ) (r : Read) → length xs 
 shorter : (n s k : ℕ) (xs : List ℕ) → length xs ≤ suc k → 1 ≤ s → length (take n (drop s xs)) ≤ k
 shorter n s k xs h l = let a = length-take n (drop s xs) in let b = length-drop s xs in omega arith
 
+entered_agrees : (f g : Reader) (e : Head) (l p : ℕ) (xs : List ℕ) (r : Read)
+    → f (within e.tag) (l + 1) (p + e.size) (take e.length (drop e.size xs)) (kept (object_at e.tag l p e.length) r)
+    ≡ g (within e.tag) (l + 1) (p + e.size) (take e.length (drop e.size xs)) (kept (object_at e.tag l p e.length) r)
+    → (v : Result (Unit {0}) Refusal) → entered f e v l p xs r ≡ entered g e v l p xs r
+unfolding entered
+entered_agrees f g e l p xs r i (Ok u) = ap (λ (z : Read). cond (is_template e.tag) z (kept (object_at e.tag l p e.length) r)) i
+entered_agrees f g e l p xs r i (Err q) = refl
+
 object_agrees : (k : ℕ) (f g : Reader) → Agree k f g
     → (h : Holder) (l p : ℕ) (xs : List ℕ) (r : Read) → length xs ≤ suc k → object_read f h l p xs r ≡ object_read g h l p xs r
-unfolding object_read entered
+unfolding object_read
 object_agrees k f g a h l p xs r n =
     let e = head_of xs in
-    let j = judged (good h e (length xs)) l r.count in
     let o = kept (object_at e.tag l p e.length) r in
-    ap (λ (z : Read). cond (eqb j 0) (cond (is_template e.tag) z o) (stopped j p r))
+    entered_agrees f g e l p xs r
     (a (within e.tag) (l + 1) (p + e.size) (take e.length (drop e.size xs)) o
     (shorter e.length e.size k xs n (let s = (head_of_small xs).0 in omega arith)))
+    (verdict (good h e (length xs)) l r.count)
 
 onward_agrees : (k : ℕ) (f g : Reader) → Agree k f g
     → (h : Holder) (l p : ℕ) (xs : List ℕ) (r : Read) → length xs ≤ suc k → onward f (head_of xs) h l p xs r ≡ onward g (head_of xs) h l p xs r
 unfolding onward
 onward_agrees k f g a h l p xs r n =
     let e = head_of xs in
-    ap (λ (z : Read). cond (eqb r.code 0) z r)
+    ap (λ (z : Read). cond (is_some r.fault) r z)
     (a (after h) l (p + (e.size + e.length)) (drop (e.size + e.length) xs) r
     (let d = length-drop (e.size + e.length) xs in let s = (head_of_small xs).0 in omega arith))
 
@@ -86,7 +99,7 @@ read_step h l p (x ∷ xs) r n =
     onward_agrees i (read_for i) read_all a h l p (x ∷ xs) (object_read (read_for i) h l p (x ∷ xs) r) (le_refl (suc i))
     ∙ ap (onward read_all (head_of (x ∷ xs)) h l p (x ∷ xs)) (object_agrees i (read_for i) read_all a h l p (x ∷ xs) r (le_refl (suc i)))
 
--- what an object of number 0 is
+-- what an object that is accepted is
 pub record Judged (h : Holder) (e : Head) (n l c : ℕ) : Type 0 where
   pub stood : stands h e.tag ≡ true
   pub most : e.length ≤ largest
@@ -95,21 +108,25 @@ pub record Judged (h : Holder) (e : Head) (n l c : ℕ) : Type 0 where
   pub deep : l ≤ 4
   pub few : c < 32
 
-pub judged_good : (b : Bool) (l c : ℕ) → judged b l c ≡ 0 → (b ≡ true) × ((l ≤ 4) × (c < 32))
-unfolding judged
+refused : (q : Refusal) → ◌≡◌ {A = Result (Unit {0}) Refusal} (Err q) (Ok tt) → ⊥
+refused q w = let z : ◌≡◌ {A = ℕ} 0 1 = cc in omega arith
+
+pub judged_good : (b : Bool) (l c : ℕ) → verdict b l c ≡ Ok tt → (b ≡ true) × ((l ≤ 4) × (c < 32))
+unfolding verdict
 judged_good b l c e = go b (leb l 4) refl (ltb c 32) refl e
   where
-    go : (x y : Bool) → leb l 4 ≡ y → (z : Bool) → ltb c 32 ≡ z → ◌≡◌ {A = ℕ} (cond x (cond y (cond z 0 18) 17) 16) 0 → (x ≡ true) × ((l ≤ 4) × (c < 32))
+    go : (x y : Bool) → leb l 4 ≡ y → (z : Bool) → ltb c 32 ≡ z
+        → ◌≡◌ {A = Result (Unit {0}) Refusal} (cond x (cond y (cond z (Ok (tt {0})) (Err TooMany)) (Err TooDeep)) (Err BadObject)) (Ok (tt {0})) → (x ≡ true) × ((l ≤ 4) × (c < 32))
     go true true d true f w = (refl, (leb-true _ _ d, ltb-true _ _ f))
-    go true true d false f w = absurd (omega (arith, w))
-    go true false d z f w = absurd (omega (arith, w))
-    go false y d z f w = absurd (omega (arith, w))
+    go true true d false f w = absurd (refused _ w)
+    go true false d z f w = absurd (refused _ w)
+    go false y d z f w = absurd (refused _ w)
 
-pub good_judged : (b : Bool) (l c : ℕ) → b ≡ true → l ≤ 4 → c < 32 → judged b l c ≡ 0
-unfolding judged
+pub good_judged : (b : Bool) (l c : ℕ) → b ≡ true → l ≤ 4 → c < 32 → verdict b l c ≡ Ok tt
+unfolding verdict
 good_judged b l c e d f = simp (e, le-leb _ _ d, lt-ltb _ _ f)
 
-pub judged_parts : (h : Holder) (e : Head) (n l c : ℕ) → judged (good h e n) l c ≡ 0 → Judged h e n l c
+pub judged_parts : (h : Holder) (e : Head) (n l c : ℕ) → verdict (good h e n) l c ≡ Ok tt → Judged h e n l c
 unfolding good
 judged_parts h e n l c w =
     let j = judged_good (good h e n) l c w in
@@ -123,59 +140,69 @@ pub parts_good : (h : Holder) (e : Head) (n : ℕ) → stands h e.tag ≡ true �
 unfolding good
 parts_good h e n a b c d = simp (a, le-leb _ _ b, le-leb _ _ c, d)
 
--- an object that is at fault stops the reading with its number, and one that is not has room
-pub entered_stops : (f : Reader) (e : Head) (k l p : ℕ) (xs : List ℕ) (r : Read) → eqb k 0 ≡ false → entered f e k l p xs r ≡ stopped k p r
+-- an object that is at fault stops the reading, and one that is not has room
+pub entered_stops : (f : Reader) (e : Head) (v : Result (Unit {0}) Refusal) (q : Refusal) (l p : ℕ) (xs : List ℕ) (r : Read) → v ≡ Err q
+    → entered f e v l p xs r ≡ stopped q p r
 unfolding entered
-entered_stops f e k l p xs r w = simp w
+entered_stops f e v q l p xs r w = ap (λ (k : Result (Unit {0}) Refusal). entered f e k l p xs r) w
 
-entered_kept : (f : Reader) (e : Head) (k l p : ℕ) (xs : List ℕ) (r : Read) → eqb k 0 ≡ true → is_template e.tag ≡ false
-    → entered f e k l p xs r ≡ kept (object_at e.tag l p e.length) r
+entered_kept : (f : Reader) (e : Head) (v : Result (Unit {0}) Refusal) (l p : ℕ) (xs : List ℕ) (r : Read) → v ≡ Ok tt → is_template e.tag ≡ false
+    → entered f e v l p xs r ≡ kept (object_at e.tag l p e.length) r
 unfolding entered
-entered_kept f e k l p xs r w t = simp (w, t)
+entered_kept f e v l p xs r w t = ap (λ (k : Result (Unit {0}) Refusal). entered f e k l p xs r) w ∙ simp t
 
-entered_inner : (f : Reader) (e : Head) (k l p : ℕ) (xs : List ℕ) (r : Read) → eqb k 0 ≡ true → is_template e.tag ≡ true
-    → entered f e k l p xs r
+entered_inner : (f : Reader) (e : Head) (v : Result (Unit {0}) Refusal) (l p : ℕ) (xs : List ℕ) (r : Read) → v ≡ Ok tt → is_template e.tag ≡ true
+    → entered f e v l p xs r
     ≡ f (within e.tag) (l + 1) (p + e.size) (take e.length (drop e.size xs)) (kept (object_at e.tag l p e.length) r)
 unfolding entered
-entered_inner f e k l p xs r w t = simp (w, t)
+entered_inner f e v l p xs r w t = ap (λ (k : Result (Unit {0}) Refusal). entered f e k l p xs r) w ∙ simp t
+
+-- nothing is at fault, or something is
+pub nothing_wrong : (f : Option Fault) → is_some f ≡ false → f ≡ None
+nothing_wrong None e = refl
+nothing_wrong (Some x) e = absurd (true≢false e)
 
 -- the others are read unless it stopped
-onward_stops : (f : Reader) (e : Head) (h : Holder) (l p : ℕ) (xs : List ℕ) (r : Read) → eqb r.code 0 ≡ false → onward f e h l p xs r ≡ r
+onward_stops : (f : Reader) (e : Head) (h : Holder) (l p : ℕ) (xs : List ℕ) (r : Read) → is_some r.fault ≡ true → onward f e h l p xs r ≡ r
 unfolding onward
 onward_stops f e h l p xs r w = simp w
 
-onward_goes : (f : Reader) (e : Head) (h : Holder) (l p : ℕ) (xs : List ℕ) (r : Read) → eqb r.code 0 ≡ true
+onward_goes : (f : Reader) (e : Head) (h : Holder) (l p : ℕ) (xs : List ℕ) (r : Read) → is_some r.fault ≡ false
     → onward f e h l p xs r ≡ f (after h) l (p + (e.size + e.length)) (drop (e.size + e.length) xs) r
 unfolding onward
 onward_goes f e h l p xs r w = simp w
 
-pub read_code : (f : Reader) (h : Holder) (l p : ℕ) (xs : List ℕ) (r : Read)
-    → (object_read f h l p xs r).code ≡ 0 → judged (good h (head_of xs) (length xs)) l r.count ≡ 0
+pub read_fault : (f : Reader) (h : Holder) (l p : ℕ) (xs : List ℕ) (r : Read)
+    → (object_read f h l p xs r).fault ≡ None → verdict (good h (head_of xs) (length xs)) l r.count ≡ Ok tt
 unfolding object_read stopped
-read_code f h l p xs r e = go (eqb j 0) refl
+read_fault f h l p xs r e = go j refl
   where
-    j : ℕ
-    j = judged (good h (head_of xs) (length xs)) l r.count
+    j : Result (Unit {0}) Refusal
+    j = verdict (good h (head_of xs) (length xs)) l r.count
 
-    go : (b : Bool) → eqb j 0 ≡ b → j ≡ 0
-    go true w = eqb-true _ _ w
-    go false w = sym (ap (λ (q : Read). q.code) (entered_stops f (head_of xs) j l p xs r w)) ∙ e
+    go : (v : Result (Unit {0}) Refusal) → j ≡ v → j ≡ Ok tt
+    go (Ok u) w = w
+    go (Err q) w =
+        let y : ◌≡◌ {A = Option Fault} (Some (record { at = p; why = q })) None
+        = sym (ap (λ (x : Read). x.fault) (entered_stops f (head_of xs) j q l p xs r w)) ∙ e in
+        let z : ◌≡◌ {A = ℕ} 0 1 = cc in
+        absurd (omega arith)
 
--- the object's reader: e, b and k are what the code finds of it
-module _ (h : Holder) (l p : ℕ) (xs : List ℕ) (r : Read) (e : Head) (b : Bool) (k : ℕ) (i : e ≡ head_of xs) (j : b ≡ good h e (length xs))
-    (m : k ≡ judged b l r.count) where
+-- the object's reader: e, b and v are what the code finds of it
+module _ (h : Holder) (l p : ℕ) (xs : List ℕ) (r : Read) (e : Head) (b : Bool) (k : Result (Unit {0}) Refusal) (i : e ≡ head_of xs) (j : b ≡ good h e (length xs))
+    (m : k ≡ verdict b l r.count) where
   found : (f : Reader) → entered f e k l p xs r ≡ object_read f h l p xs r
   unfolding object_read
   found f =
       let g : b ≡ good h (head_of xs) (length xs) = j ∙ ap (λ (z : Head). good h z (length xs)) i in
-      ap₂ (λ (z : Head) (n : ℕ). entered f z n l p xs r) i (m ∙ ap (λ (z : Bool). judged z l r.count) g)
+      ap₂ (λ (z : Head) (v : Result (Unit {0}) Refusal). entered f z v l p xs r) i (m ∙ ap (λ (z : Bool). verdict z l r.count) g)
 
-  pub object_stopped : (k ≡ 0 → ⊥) → (q : Read) → q ≡ stopped k p r → q ≡ object_read read_all h l p xs r
-  object_stopped n q w = w ∙ sym (entered_stops read_all e k l p xs r (ne_eqb k 0 n)) ∙ found read_all
+  pub object_stopped : (w : Refusal) → k ≡ Err w → (q : Read) → q ≡ stopped w p r → q ≡ object_read read_all h l p xs r
+  object_stopped w n q y = y ∙ sym (entered_stops read_all e k w l p xs r n) ∙ found read_all
 
-  module _ (z : k ≡ 0) where
+  module _ (z : k ≡ Ok tt) where
     object_judged : Judged h e (length xs) l r.count
-    object_judged = judged_parts h e (length xs) l r.count (ap (λ (y : Bool). judged y l r.count) (sym j) ∙ sym m ∙ z)
+    object_judged = judged_parts h e (length xs) l r.count (ap (λ (y : Bool). verdict y l r.count) (sym j) ∙ sym m ∙ z)
 
     pub object_room : e.size + e.length ≤ length xs
     object_room = object_judged.room
@@ -226,7 +253,7 @@ module _ (h : Holder) (l p : ℕ) (xs : List ℕ) (r : Read) (e : Head) (b : Boo
         → q ≡ kept (record { tag = e.tag; level = l; place = p + e.size; length = e.length }) r → q ≡ object_read read_all h l p xs r
     object_kept t u n q w =
         w ∙ ap (λ (y : Object). kept y r) (kept_is (p + e.size) refl)
-        ∙ sym (entered_kept read_all e k l p xs r (eq-eqb k 0 z) (sym u ∙ not-true t n)) ∙ found read_all
+        ∙ sym (entered_kept read_all e k l p xs r z (sym u ∙ not-true t n)) ∙ found read_all
 
     module _ (t : Bool) (u : t ≡ is_template e.tag) (n : not t ≡ false) (o : Read)
         (w : o ≡ kept (record { tag = e.tag; level = l; place = p + e.size; length = e.length }) r) where
@@ -236,19 +263,19 @@ module _ (h : Holder) (l p : ℕ) (xs : List ℕ) (r : Read) (e : Head) (b : Boo
           y
           ∙ ap₂ (λ (x : Holder) (d : ℕ). read_all x (l + 1) (p + e.size) (take d (drop e.size xs)) o) v c
           ∙ ap (λ (x : Read). read_all (within e.tag) (l + 1) (p + e.size) (take e.length (drop e.size xs)) x) (w ∙ ap (λ (x : Object). kept x r) (kept_is (p + e.size) refl))
-          ∙ sym (entered_inner read_all e k l p xs r (eq-eqb k 0 z) (sym u ∙ not-false t n)) ∙ found read_all
+          ∙ sym (entered_inner read_all e k l p xs r z (sym u ∙ not-false t n)) ∙ found read_all
 
 -- the template's reader
 module _ (h : Holder) (l p : ℕ) (xs : List ℕ) (r : Read) (n : length xs ≡ 0 → ⊥) (q : Read) (w : q ≡ object_read read_all h l p xs r) where
   stepped : read_all h l p xs r ≡ onward read_all (head_of xs) h l p xs q
   stepped = read_step h l p xs r n ∙ ap (λ (y : Read). onward read_all (head_of xs) h l p xs y) (sym w)
 
-  pub template_stopped : (q.code ≡ 0 → ⊥) → q ≡ read_all h l p xs r
-  template_stopped z = sym (stepped ∙ onward_stops read_all (head_of xs) h l p xs q (ne_eqb q.code 0 z))
+  pub template_stopped : (t : Bool) → t ≡ is_some q.fault → t ≡ true → q ≡ read_all h l p xs r
+  template_stopped t u z = sym (stepped ∙ onward_stops read_all (head_of xs) h l p xs q (sym u ∙ z))
 
-  module _ (z : q.code ≡ 0) (e : Head) (i : e ≡ head_of xs) where
+  module _ (t : Bool) (u : t ≡ is_some q.fault) (z : t ≡ false) (e : Head) (i : e ≡ head_of xs) where
     template_judged : Judged h (head_of xs) (length xs) l r.count
-    template_judged = judged_parts h (head_of xs) (length xs) l r.count (read_code read_all h l p xs r (ap (λ (y : Read). y.code) (sym w) ∙ z))
+    template_judged = judged_parts h (head_of xs) (length xs) l r.count (read_fault read_all h l p xs r (ap (λ (y : Read). y.fault) (sym w) ∙ nothing_wrong q.fault (sym u ∙ z)))
 
     pub template_room : e.size + e.length ≤ length xs
     template_room = subst (λ (y : Head). y.size + y.length ≤ length xs) (sym i) template_judged.room
@@ -287,15 +314,15 @@ module _ (h : Holder) (l p : ℕ) (xs : List ℕ) (r : Read) (n : length xs ≡ 
         y
         ∙ ap₂ (λ (x : Holder) (d : List ℕ). read_all x l (p + (e.size + e.length)) d q) v left_is
         ∙ ap (λ (x : Head). read_all (after h) l (p + (x.size + x.length)) (drop (x.size + x.length) xs) q) i
-        ∙ sym (stepped ∙ onward_goes read_all (head_of xs) h l p xs q (eq-eqb q.code 0 z))
+        ∙ sym (stepped ∙ onward_goes read_all (head_of xs) h l p xs q (sym u ∙ z))
 
 pub head_small_enough : (xs : List ℕ) (e : Head) → e ≡ head_of xs → e.size ≤ 4
 head_small_enough xs e i = subst (λ (y : Head). y.size ≤ 4) (sym i) (head_of_small xs).1
 
 -- the whole
-pub reading_none : (xs : List ℕ) (b q : Read) → b ≡ begun → length xs ≡ 0 → q ≡ stopped 16 0 b → q ≡ reading xs
+pub reading_none : (xs : List ℕ) (b q : Read) → b ≡ begun → length xs ≡ 0 → q ≡ stopped BadObject 0 b → q ≡ reading xs
 unfolding reading
-reading_none xs b q e n w = simp (eq-eqb (length xs) 0 n) (w ∙ ap (stopped 16 0) e)
+reading_none xs b q e n w = simp (eq-eqb (length xs) 0 n) (w ∙ ap (stopped BadObject 0) e)
 
 pub reading_some : (xs : List ℕ) (b q : Read) → b ≡ begun → (length xs ≡ 0 → ⊥) → q ≡ read_all Outer 1 0 xs b → q ≡ reading xs
 unfolding reading

@@ -1,4 +1,6 @@
 -- The reader reads the grammar, and nothing else. Assumes nothing.
+use Rattle.std.specs.Prelude.{Some, None}
+use Rattle.answers.specs.declared.Refusal.TheVariants.{BadObject}
 use mathlib.Core.Path.{◌≡◌, refl, sym, ap, ap₂, subst, ◌∙◌}
 use mathlib.Core.Bool.{Bool, cond}
 use mathlib.Core.List.{List, [], ◌∷◌, ◌++◌, append-nil, append_assoc}
@@ -38,7 +40,7 @@ kept_answered s o h =
     ∙ ap (λ (j : ℕ). s ++ (o ∷ replicate j no_object)) v
     ∙ sym (append_assoc s (o ∷ []) (replicate (32 - length (s ++ (o ∷ []))) no_object))
     in
-    ap₂ (λ (z : List Object) (c : ℕ). record { objects = z; count = c; at = 0; code = 0 }) q (sym a)
+    ap₂ (λ (z : List Object) (c : ℕ). record { objects = z; count = c; fault = None }) q (sym a)
 
 filled-answered : (s t : List Object) → length s + length t ≤ 32 → filled (answered s) t ≡ answered (s ++ t)
 filled-answered s [] h = ap answered (sym (append-nil s))
@@ -86,17 +88,19 @@ each_tree t x w =
     ∙ filled-answered [] (objects_of 1 0 t) (omega arith)
 
 -- an empty input is refused
-accepted_some : (x : List ℕ) → (reading x).code ≡ 0 → length x ≡ 0 → ⊥
+accepted_some : (x : List ℕ) → (reading x).fault ≡ None → length x ≡ 0 → ⊥
 unfolding reading stopped
 accepted_some x e n =
-    let v : (reading x).code ≡ 16 = ap (λ (b : Bool). (cond b (stopped 16 0 begun) (read_all Outer 1 0 x begun)).code) (eq-eqb (length x) 0 n) in
-    omega arith
+    let v : (reading x).fault ≡ Some (record { at = 0; why = BadObject })
+    = ap (λ (b : Bool). (cond b (stopped BadObject 0 begun) (read_all Outer 1 0 x begun)).fault) (eq-eqb (length x) 0 n) in
+    let z : ◌≡◌ {A = ℕ} 0 1 = cc in
+    absurd (omega arith)
 
-accepted : (x : List ℕ) → Octets x → (reading x).code ≡ 0 → Derives x
+accepted : (x : List ℕ) → Octets x → (reading x).fault ≡ None → Derives x
 unfolding begun
 accepted x o e =
     let n = accepted_some x e in
-    let d = templates_derived (length x) x 1 0 begun o (le_refl (length x)) (omega arith) refl (ap (λ (r : Read). r.code) (reading_some x begun _ refl n refl) ∙ e) in
+    let d = templates_derived (length x) x 1 0 begun o (le_refl (length x)) (omega arith) refl (ap (λ (r : Read). r.fault) (reading_some x begun _ refl n refl) ∙ e) in
     let t = templates_in (length x) x in
     let f = d.fitting in
     let m : length (objects_of 1 0 t) ≤ 32 = let z = f.few in omega arith in

@@ -1,11 +1,14 @@
 -- A tree of the grammar that is written is read, and gives its objects. Assumes nothing.
+use Rattle.std.specs.Prelude.{None, Result, Ok}
+use Rattle.std.specs.Option.{is_some}
+use Rattle.answers.specs.declared.Refusal.{Refusal}
 use mathlib.Core.Path.{◌≡◌, refl, sym, ap, ap₂, subst, ◌∙◌}
 use mathlib.Core.Bool.{Bool, true, false, cond}
 use mathlib.Core.List.{List, [], ◌∷◌, ◌++◌}
 use mathlib.Core.Option.{Option, none, some}
 use Prim.Native.Nat.{ℕ, ◌+◌, ◌≤◌, ◌<◌}
 use native.Mathlib.Omega.{arith}
-use borrow.Author.Tests.{eqb-true, eq-eqb, leb-true}
+use borrow.Author.Tests.{eqb-true, leb-true}
 use lib.Dec.{leb}
 use lib.ListN.{length, drop, length-append}
 use Rattle.shapes.specs.Length.{largest}
@@ -15,7 +18,7 @@ use Rattle.templates.specs.declared.Head.{Head}
 use Rattle.templates.specs.declared.Object.{Object}
 use Rattle.templates.specs.declared.Read.{Read}
 use Rattle.templates.specs.Grammar.{Kind, template1, template2, Script, Templates, nothing, script, outer, kind_tag, outer_tag, command_tag, identifier_tag, object, written_identifier, written_commands, written_script, written, identifier_fits, commands_fit, script_fits, fits, head_size, object_at, identifier_objects, command_objects, script_objects, objects_of, down_to}
-use Rattle.templates.specs.Reading.{stands, after, is_template, within, head_for, head_of, length_fits, good, judged, kept, entered, object_read, onward, read_all}
+use Rattle.templates.specs.Reading.{stands, after, is_template, within, head_for, head_of, length_fits, good, verdict, kept, entered, object_read, onward, read_all}
 use Rattle.templates.proofs.HeadLaws.{both, joined, head_small, length-object, head_read, data_read, rest_read}
 use Rattle.templates.proofs.ReadLaws.{read_none, read_step, parts_good, good_judged}
 
@@ -33,16 +36,16 @@ unfolding kept
 filled-count r [] = omega arith
 filled-count r (o ∷ s) = let e = filled-count (kept o r) s in omega arith
 
-pub filled-code : (r : Read) (s : List Object) → (filled r s).code ≡ r.code
+pub filled-fault : (r : Read) (s : List Object) → (filled r s).fault ≡ r.fault
 unfolding kept
-filled-code r [] = refl
-filled-code r (o ∷ s) = filled-code (kept o r) s
+filled-fault r [] = refl
+filled-fault r (o ∷ s) = filled-fault (kept o r) s
 
 -- there is room for objects, none of which is too deep
 pub record Fitting (s : List Object) (r : Read) : Type 0 where
   pub deep : down_to 4 s ≡ true
   pub few : r.count + length s ≤ 32
-  pub sane : r.code ≡ 0
+  pub sane : r.fault ≡ None
 
 pub record Next (o : Object) (s : List Object) (r : Read) : Type 0 where
   pub level : o.level ≤ 4
@@ -77,7 +80,7 @@ fitting-last s t r f =
     let a = length-append s t in
     let b = filled-count r s in
     let n = f.few in
-    record { deep = down_last 4 s t f.deep; few = omega arith; sane = filled-code r s ∙ f.sane }
+    record { deep = down_last 4 s t f.deep; few = omega arith; sane = filled-fault r s ∙ f.sane }
 
 -- an object that is written, and what follows it
 module _ (h : Holder) (t : ℕ) (d s : List ℕ) (l p : ℕ) (r : Read) (w : stands h t ≡ true) (m : length d ≤ largest) (f : length_fits t (length d) ≡ true)
@@ -97,19 +100,19 @@ module _ (h : Holder) (t : ℕ) (d s : List ℕ) (l p : ℕ) (r : Read) (w : sta
   some_bytes : length x ≡ 0 → ⊥
   some_bytes e = let a = sized in let b = (head_small t n).least in omega arith
 
-  accepted : (e : Head) → e ≡ head_for t n → judged (good h e (length x)) l r.count ≡ 0
+  accepted : (e : Head) → e ≡ head_for t n → verdict (good h e (length x)) l r.count ≡ Ok tt
   unfolding head_for
   accepted e i =
       let a = sized in
-      ap (λ (z : Head). judged (good h z (length x)) l r.count) i
+      ap (λ (z : Head). verdict (good h z (length x)) l r.count) i
       ∙ good_judged (good h (head_for t n) (length x)) l r.count (parts_good h (head_for t n) (length x) w m (omega arith) f) deep few
 
   object_step : (e : Head) → e ≡ head_for t n
-      → entered read_all e (judged (good h e (length x)) l r.count) l p x r
+      → entered read_all e (verdict (good h e (length x)) l r.count) l p x r
       ≡ cond (is_template t) (read_all (within t) (l + 1) (p + head_size t n) d (kept o r)) (kept o r)
   unfolding head_for entered
   object_step e i =
-      ap₂ (λ (z : Head) (k : ℕ). entered read_all z k l p x r) i (accepted e i)
+      ap₂ (λ (z : Head) (k : Result (Unit {0}) Refusal). entered read_all z k l p x r) i (accepted e i)
       ∙ ap (λ (y : List ℕ). cond (is_template t) (read_all (within t) (l + 1) (p + head_size t n) y (kept o r)) (kept o r)) (data_read t d s)
 
   pub object_read_lem : is_template t ≡ true → object_read read_all h l p x r ≡ read_all (within t) (l + 1) (p + head_size t n) d (kept o r)
@@ -118,24 +121,24 @@ module _ (h : Holder) (t : ℕ) (d s : List ℕ) (l p : ℕ) (r : Read) (w : sta
       object_step (head_of x) (head_read h t d s w m)
       ∙ ap (λ (b : Bool). cond b (read_all (within t) (l + 1) (p + head_size t n) d (kept o r)) (kept o r)) e
 
-  read_object_lem : (q : Read) → cond (is_template t) (read_all (within t) (l + 1) (p + head_size t n) d (kept o r)) (kept o r) ≡ q → q.code ≡ 0
+  read_object_lem : (q : Read) → cond (is_template t) (read_all (within t) (l + 1) (p + head_size t n) d (kept o r)) (kept o r) ≡ q → q.fault ≡ None
       → read_all h l p x r ≡ read_all (after h) l (p + length (object t d)) s q
   unfolding head_for object_read onward
   read_object_lem q e c =
       let i : head_of x ≡ head_for t n = head_read h t d s w m in
       read_step h l p x r some_bytes
       ∙ ap₂ (λ (z : Head) (y : Read). onward read_all z h l p x y) i (object_step (head_of x) i ∙ e)
-      ∙ ap (λ (b : Bool). cond b (read_all (after h) l (p + (head_size t n + n)) (drop (head_size t n + n) x) q) q) (eq-eqb q.code 0 c)
+      ∙ ap (λ (b : Bool). cond b q (read_all (after h) l (p + (head_size t n + n)) (drop (head_size t n + n) x) q)) (ap is_some c)
       ∙ ap₂ (λ (k : ℕ) (y : List ℕ). read_all (after h) l (p + k) y q) (sym (length-object t d)) (rest_read t d s)
 
-  pub read_data : is_template t ≡ false → r.code ≡ 0 → read_all h l p x r ≡ read_all (after h) l (p + length (object t d)) s (kept o r)
+  pub read_data : is_template t ≡ false → r.fault ≡ None → read_all h l p x r ≡ read_all (after h) l (p + length (object t d)) s (kept o r)
   unfolding kept
   read_data e c =
       read_object_lem (kept o r)
       (ap (λ (b : Bool). cond b (read_all (within t) (l + 1) (p + head_size t n) d (kept o r)) (kept o r)) e)
       c
 
-  pub read_template_lem : is_template t ≡ true → (q : Read) → read_all (within t) (l + 1) (p + head_size t n) d (kept o r) ≡ q → q.code ≡ 0
+  pub read_template_lem : is_template t ≡ true → (q : Read) → read_all (within t) (l + 1) (p + head_size t n) d (kept o r) ≡ q → q.fault ≡ None
       → read_all h l p x r ≡ read_all (after h) l (p + length (object t d)) s q
   read_template_lem e q i c =
       read_object_lem q (ap (λ (b : Bool). cond b (read_all (within t) (l + 1) (p + head_size t n) d (kept o r)) (kept o r)) e ∙ i) c
@@ -204,7 +207,7 @@ kind_read template2 d s l p r m v c = object_read_lem Outer (kind_tag template2)
 
 -- a 71 or 72 that holds d, which is read to q
 pub script_turn : (k : Kind) (d s : List ℕ) (l p : ℕ) (r q : Read) → length d ≤ largest → l ≤ 4 → r.count < 32
-    → read_all Fresh (l + 1) (p + head_size (kind_tag k) (length d)) d (kept (object_at (kind_tag k) l p (length d)) r) ≡ q → q.code ≡ 0
+    → read_all Fresh (l + 1) (p + head_size (kind_tag k) (length d)) d (kept (object_at (kind_tag k) l p (length d)) r) ≡ q → q.fault ≡ None
     → read_all Outer l p (object (kind_tag k) d ++ s) r ≡ read_all Outer l (p + length (object (kind_tag k) d)) s q
 unfolding stands after is_template within length_fits
 script_turn template1 d s l p r q m v c e z = read_template_lem Outer (kind_tag template1) d s l p r refl m refl v c refl q e z

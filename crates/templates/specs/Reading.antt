@@ -1,13 +1,17 @@
 -- Reading script templates (Wish 6): the objects in order, or the first at fault in byte order. Assumes nothing.
-use Rattle.std.specs.Prelude.{ℕ, zero, suc, ◌+◌, Bool, ◌&&◌, ◌||◌, not, cond, List, [], ◌∷◌, eqb, leb, ltb, length, get_or, take, drop, set, replicate}
+use Rattle.std.specs.Prelude.{ℕ, zero, suc, ◌+◌, Bool, ◌&&◌, ◌||◌, not, cond, List, [], ◌∷◌, eqb, leb, ltb, length, get_or, take, drop, set, replicate, Option, Some, None, Result, Ok, Err}
+use Rattle.std.specs.Option.{is_some}
+use Rattle.answers.specs.declared.Refusal.{Refusal}
 use Rattle.answers.specs.declared.Refusal.TheVariants.{BadObject, TooDeep, TooMany}
 use Rattle.answers.specs.Refusals.{number}
+use Rattle.answers.specs.Answers.{number_told}
 use Rattle.shapes.specs.Length.{largest}
 use Rattle.shapes.specs.Shape.{length_of}
 use Rattle.templates.specs.declared.Holder.{Holder}
 use Rattle.templates.specs.declared.Holder.TheVariants.{Outer, Fresh, Begun}
 use Rattle.templates.specs.declared.Object.{Object}
 use Rattle.templates.specs.declared.Head.{Head}
+use Rattle.templates.specs.declared.Fault.{Fault}
 use Rattle.templates.specs.declared.Read.{Read}
 use Rattle.templates.specs.Grammar.{outer_tag, command_tag, identifier_tag, head_size, object_at}
 
@@ -55,41 +59,52 @@ unfoldable pub good : Holder → Head → ℕ → Bool
 good h e n = stands h e.tag && (leb e.length largest && (leb (e.size + e.length) n && length_fits e.tag e.length))
 
 -- "at one object 16, 17, 18": an object at level l, with c objects ahead of it
+unfoldable pub verdict : Bool → ℕ → ℕ → Result (Unit {0}) Refusal
+verdict b l c = cond b (cond (leb l 4) (cond (ltb c 32) (Ok tt) (Err TooMany)) (Err TooDeep)) (Err BadObject)
+
 unfoldable pub judged : Bool → ℕ → ℕ → ℕ
-judged b l c = cond b (cond (leb l 4) (cond (ltb c 32) 0 (number TooMany)) (number TooDeep)) (number BadObject)
+judged b l c = number_told (verdict b l c)
 
 -- what was read: the objects so far; or where and why it stopped
 unfoldable pub no_object : Object
 no_object = record { tag = 0; level = 0; place = 0; length = 0 }
 
 unfoldable pub begun : Read
-begun = record { objects = replicate 32 no_object; count = 0; at = 0; code = 0 }
+begun = record { objects = replicate 32 no_object; count = 0; fault = None }
 
 unfoldable pub kept : Object → Read → Read
-kept o r = record { objects = set r.objects r.count o; count = r.count + 1; at = r.at; code = r.code }
+kept o r = record { objects = set r.objects r.count o; count = r.count + 1; fault = r.fault }
 
-unfoldable pub stopped : ℕ → ℕ → Read → Read
-stopped k p r = record { objects = r.objects; count = r.count; at = p; code = k }
+unfoldable pub stopped : Refusal → ℕ → Read → Read
+stopped q p r = record { objects = r.objects; count = r.count; fault = Some (record { at = p; why = q }) }
 
--- "A template holds objects, an object may be a template in turn": the object of level l and number k that xs, at place p, begin with, and the objects in it,
+-- 01's number of it, 0 where nothing is at fault; and where the object at fault begins
+abbrev pub number_of_fault : Option Fault → ℕ
+number_of_fault None = 0
+number_of_fault (Some f) = number f.why
+
+abbrev pub place_of_fault : Option Fault → ℕ
+place_of_fault None = 0
+place_of_fault (Some f) = f.at
+
+-- "A template holds objects, an object may be a template in turn": the object of level l that xs, at place p, begin with, and the objects in it,
 -- which `inner` reads
 abbrev pub Reader : Type 0
 Reader = Holder → ℕ → ℕ → List ℕ → Read → Read
 
-unfoldable pub entered : Reader → Head → ℕ → ℕ → ℕ → List ℕ → Read → Read
-entered inner e k l p xs r =
-    cond (eqb k 0)
-    (cond (is_template e.tag)
+unfoldable pub entered : Reader → Head → Result (Unit {0}) Refusal → ℕ → ℕ → List ℕ → Read → Read
+entered inner e (Ok u) l p xs r =
+    cond (is_template e.tag)
     (inner (within e.tag) (l + 1) (p + e.size) (take e.length (drop e.size xs)) (kept (object_at e.tag l p e.length) r))
-    (kept (object_at e.tag l p e.length) r))
-    (stopped k p r)
+    (kept (object_at e.tag l p e.length) r)
+entered inner e (Err q) l p xs r = stopped q p r
 
 unfoldable pub object_read : Reader → Reader
-object_read inner h l p xs r = entered inner (head_of xs) (judged (good h (head_of xs) (length xs)) l r.count) l p xs r
+object_read inner h l p xs r = entered inner (head_of xs) (verdict (good h (head_of xs) (length xs)) l r.count) l p xs r
 
 -- and then the others of its holder, unless it is at fault
 unfoldable pub onward : Reader → Head → Reader
-onward inner e h l p xs r = cond (eqb r.code 0) (inner (after h) l (p + (e.size + e.length)) (drop (e.size + e.length) xs) r) r
+onward inner e h l p xs r = cond (is_some r.fault) r (inner (after h) l (p + (e.size + e.length)) (drop (e.size + e.length) xs) r)
 
 -- all objects of a holder whose bytes are xs; no reading takes more steps than there are bytes
 unfoldable pub read_for : ℕ → Reader
@@ -102,4 +117,4 @@ read_all h l p xs r = read_for (length xs) h l p xs r
 
 -- "empty input" is 16; else the top, at level 1
 unfoldable pub reading : List ℕ → Read
-reading xs = cond (eqb (length xs) 0) (stopped (number BadObject) 0 begun) (read_all Outer 1 0 xs begun)
+reading xs = cond (eqb (length xs) 0) (stopped BadObject 0 begun) (read_all Outer 1 0 xs begun)

@@ -2,14 +2,14 @@
 #![tactic(auto)]
 
 ghost use Rattle.std.specs.Prelude.{◌≡◌, ◌+◌, ◌<◌, ◌≤◌, ◌^◌, length};
-ghost use Rattle.templates.specs.Reading.{stands as standsIn, after as afterIn, within as withinOf, is_template, is_data, tag_in, ahead as ahead_of, head_of, length_fits, good, judged, no_object, begun as begunRead, kept as kept_in, stopped as stoppedAt, object_read, read_all, reading};
+ghost use Rattle.templates.specs.Reading.{stands as standsIn, after as afterIn, within as withinOf, is_template, is_data, tag_in, ahead as ahead_of, head_of, length_fits, good, verdict, no_object, begun as begunRead, kept as kept_in, stopped as stoppedAt, object_read, read_all, reading};
 ghost use Rattle.octets.specs.Numbers.{be_octets};
 ghost use Rattle.templates.specs.Lent.{object_bytes, laid_objects};
 
 use answers::Refusal;
 
 // What objects stand in: the top or an e1; a 71 or 72 that holds nothing yet; one that holds something.
-#[derive(Clone, Copy)]
+#[derive(Clone, Copy, Debug, PartialEq, Eq)]
 pub enum Holder {
     Outer,
     Fresh,
@@ -17,7 +17,7 @@ pub enum Holder {
 }
 
 // An object: its tag, its level, and the place and length of its data.
-#[derive(Clone, Copy)]
+#[derive(Clone, Copy, Debug, PartialEq, Eq)]
 pub struct Object {
     pub tag: usize,
     pub level: usize,
@@ -25,17 +25,23 @@ pub struct Object {
     pub length: usize,
 }
 
-// What was read: the objects in order and how many; where the object at fault begins, and the refusal's number, 0 where there is none.
-#[derive(Clone, Copy)]
+// Where the object at fault begins, and why it is refused.
+#[derive(Clone, Copy, Debug, PartialEq, Eq)]
+pub struct Fault {
+    pub at: usize,
+    pub why: Refusal,
+}
+
+// What was read: the objects in order and how many, and what is at fault.
+#[derive(Clone, Copy, Debug, PartialEq, Eq)]
 pub struct Read {
     pub objects: [Object; 32],
     pub count: usize,
-    pub at: usize,
-    pub code: u8,
+    pub fault: Option<Fault>,
 }
 
 // Tag, length of the data, and size of tag and length field of the object that bytes begin with.
-#[derive(Clone, Copy)]
+#[derive(Clone, Copy, Debug, PartialEq, Eq)]
 pub struct Head {
     pub tag: usize,
     pub length: usize,
@@ -62,23 +68,14 @@ pub const MOST: usize = 32;
 pub fn is_template(tag: usize) -> bool
     ensures { result ≡ is_template tag }
 {
-    if tag == TEMPLATE_1 {
-        return true;
-    }
-    if tag == TEMPLATE_2 {
-        return true;
-    }
-    tag == OUTER
+    tag == TEMPLATE_1 || tag == TEMPLATE_2 || tag == OUTER
 }
 
 // Whether a tag's data are its own.
 pub fn is_data(tag: usize) -> bool
     ensures { result ≡ is_data tag }
 {
-    if tag == IDENTIFIER {
-        return true;
-    }
-    tag == COMMAND
+    tag == IDENTIFIER || tag == COMMAND
 }
 
 impl Holder {
@@ -109,9 +106,10 @@ impl Holder {
         ensures { result ≡ withinOf tag }
     {
         if tag == OUTER {
-            return Holder::Outer;
+            Holder::Outer
+        } else {
+            Holder::Fresh
         }
-        Holder::Fresh
     }
 }
 
@@ -120,23 +118,18 @@ fn tag_in(xs: &[u8]) -> usize
     ensures { result ≡ tag_in xs.now }
 {
     let first = shapes::byte_at(xs, 0);
-    if first != 0x9f {
-        return first;
+    if first == 0x9f && shapes::byte_at(xs, 1) == 0x18 {
+        IDENTIFIER
+    } else {
+        first
     }
-    if shapes::byte_at(xs, 1) != 0x18 {
-        return first;
-    }
-    IDENTIFIER
 }
 
 // How many bytes of a tag stand ahead of its last.
 pub fn ahead(tag: usize) -> usize
     ensures { result ≡ ahead_of tag }
 {
-    if tag == IDENTIFIER {
-        return 1;
-    }
-    0
+    if tag == IDENTIFIER { 1 } else { 0 }
 }
 
 // The object that bytes begin with, as far as its length field.
@@ -154,10 +147,7 @@ fn head_of(xs: &[u8]) -> Head
 pub fn length_fits(tag: usize, length: usize) -> bool
     ensures { result ≡ length_fits tag length }
 {
-    if tag != IDENTIFIER {
-        return true;
-    }
-    length == IDENTIFIER_LENGTH
+    tag != IDENTIFIER || length == IDENTIFIER_LENGTH
 }
 
 // Whether an object may stand in a holder that has n bytes left.
@@ -165,32 +155,26 @@ fn is_good(holder: Holder, head: Head, n: usize) -> bool
     requires { head.size ≤ 4 }
     ensures { result ≡ good holder head n }
 {
-    if !holder.stands(head.tag) {
-        return false;
-    }
-    if head.length > shapes::LARGEST {
-        return false;
-    }
-    if head.size + head.length > n {
-        return false;
-    }
-    length_fits(head.tag, head.length)
+    holder.stands(head.tag)
+        && head.length <= shapes::LARGEST
+        && head.size + head.length <= n
+        && length_fits(head.tag, head.length)
 }
 
-// The number of an object at a level, with c ahead of it.
-pub fn judge(fits: bool, level: usize, c: usize) -> u8
-    ensures { result ≡ judged fits level c }
+// An object at a level, with c ahead of it: 16, 17, 18.
+pub fn judge(fits: bool, level: usize, c: usize) -> Result<(), Refusal>
+    ensures { result ≡ verdict fits level c }
 {
     if !fits {
-        return Refusal::BAD_OBJECT;
+        return Err(Refusal::BadObject);
     }
     if level > DEEPEST {
-        return Refusal::TOO_DEEP;
+        return Err(Refusal::TooDeep);
     }
     if c >= MOST {
-        return Refusal::TOO_MANY;
+        return Err(Refusal::TooMany);
     }
-    0
+    Ok(())
 }
 
 impl Read {
@@ -206,8 +190,7 @@ impl Read {
                 length: 0,
             }; 32],
             count: 0,
-            at: 0,
-            code: 0,
+            fault: None,
         }
     }
 
@@ -223,11 +206,10 @@ impl Read {
     }
 
     // At fault at a place.
-    fn stopped(mut self, code: u8, place: usize) -> Read
-        ensures { result ≡ stoppedAt code place self }
+    fn stopped(mut self, why: Refusal, at: usize) -> Read
+        ensures { result ≡ stoppedAt why at self }
     {
-        self.at = place;
-        self.code = code;
+        self.fault = Some(Fault { at, why });
         self
     }
 }
@@ -242,7 +224,7 @@ fn read_template(xs: &[u8], holder: Holder, level: usize, place: usize, r: Read)
         return r;
     }
     let after = read_object(xs, holder, level, place, r);
-    if after.code != 0 {
+    if after.fault.is_some() {
         return after;
     }
     let head = head_of(xs);
@@ -257,13 +239,10 @@ fn read_object(xs: &[u8], holder: Holder, level: usize, place: usize, r: Read) -
     ensures { result ≡ object_read read_all holder level place xs.now r }
 {
     let head = head_of(xs);
-    let tag = head.tag;
-    let length = head.length;
-    let size = head.size;
+    let Head { tag, length, size } = head;
     let fits = is_good(holder, head, xs.len());
-    let code = judge(fits, level, r.count);
-    if code != 0 {
-        return r.stopped(code, place);
+    if let Err(why) = judge(fits, level, r.count) {
+        return r.stopped(why, place);
     }
     let data = place + size;
     let kept = r.kept(Object {
@@ -285,7 +264,7 @@ pub fn read_templates(xs: &[u8]) -> Read
 {
     let begun = Read::begun();
     if xs.len() == 0 {
-        return begun.stopped(Refusal::BAD_OBJECT, 0);
+        return begun.stopped(Refusal::BadObject, 0);
     }
     read_template(xs, Holder::Outer, 1, 0, begun)
 }
@@ -294,15 +273,7 @@ pub fn read_templates(xs: &[u8]) -> Read
 pub fn lay_place(place: usize) -> [u8; 4]
     ensures { result ≡ be_octets 4 place }
 {
-    let p1 = place / 256;
-    let p2 = p1 / 256;
-    let p3 = p2 / 256;
-    [
-        (p3 % 256) as u8,
-        (p2 % 256) as u8,
-        (p1 % 256) as u8,
-        (place % 256) as u8,
-    ]
+    ((place % 0x1_0000_0000) as u32).to_be_bytes()
 }
 
 // An object as ten octets.
@@ -332,11 +303,8 @@ pub fn lay_objects(objects: [Object; 32]) -> [u8; 320]
     ensures { result ≡ laid_objects objects }
 {
     let mut out = [0u8; 320];
-    let mut i = 0;
-    while i < 320 {
-        let o = lay_object(objects[i / 10]);
-        out[i] = o[i % 10];
-        i += 1;
+    for (i, object) in objects.iter().enumerate() {
+        out[i * 10..i * 10 + 10].copy_from_slice(&lay_object(*object));
     }
     out
 }

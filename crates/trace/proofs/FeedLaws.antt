@@ -1,5 +1,6 @@
 -- The turns of the loop that feeds a part. Assumes nothing.
 use Prim.Native.Nat.{ℕ, suc, ◌+◌, ◌≤◌, ◌<◌}
+use native.Mathlib.Omega.{arith}
 use native.Mathlib.Numerals.{add-one}
 use mathlib.Core.Path.{◌≡◌, sym, ap, ◌∙◌}
 use mathlib.Core.List.{List}
@@ -46,10 +47,12 @@ module _ (t : Trace) (s : List ℕ) (h : Held) (l : List ℕ) (n i : ℕ) (p : i
   unfolding extended
   feed_past e k l' n' f g = rw (f, g) (rw (lt-leb _ _ k) at (more e))
 
-pub feed_end : (t : Trace) (s : List ℕ) (u : Trace) (i : ℕ) → length s ≤ i → fed_from u i (drop i s) ≡ fed t s
-    → ◌≡◌ {A = Fed} (record { trace = u; taken = i; count = 0; answer = replicate longest_answer 0 }) (fed t s)
+pub feed_end : (t : Trace) (s : List ℕ) (u : Trace) (i : ℕ) → i ≡ length s → fed_from u i (drop i s) ≡ fed t s
+    → ◌≡◌ {A = Fed} (record { trace = u; taken = length s; count = 0; answer = replicate longest_answer 0 }) (fed t s)
 unfolding fed_from resting
-feed_end t s u i p w = sym (sym w ∙ ap (fed_from u i) (drop_of_length-le s {i = i} p))
+feed_end t s u i e w =
+    let p : length s ≤ i = omega arith in
+    sym (sym w ∙ ap (fed_from u i) (drop_of_length-le s {i = i} p) ∙ ap (resting u) e)
 
 -- the end
 pub end_empty : (t : Trace) → t.count ≡ 0 → ◌≡◌ {A = Fed} (record { trace = t; taken = 0; count = 0; answer = replicate longest_answer 0 }) (ended t)

@@ -2,13 +2,12 @@
 use Prim.Native.Nat.{ℕ, zero, suc, ◌+◌, ◌-◌, ◌≤◌, ◌<◌}
 use native.Mathlib.Omega.{arith}
 use native.Mathlib.Nat.{add-zero, zero-add}
-use native.Mathlib.Numerals.{add-one}
 use mathlib.Core.Path.{◌≡◌, refl, sym, ap, ap₂, ◌∙◌, subst}
 use mathlib.Core.Bool.{true, false}
 use mathlib.Core.List.{List, [], ◌∷◌, ◌++◌, append_assoc, append-nil}
 use lib.Dec.{leb, eqb}
-use lib.ListN.{length, get_or, set, take, drop, length-append, length-drop, drop_of_length-le}
-use lib.Seq.{drop-drop, length-take-le, paste, paste-suc, length-paste, take-paste, drop-paste}
+use lib.ListN.{length, take, drop, length-append, length-drop, drop_of_length-le}
+use lib.Seq.{drop-drop, length-take-le, paste, length-paste, take-paste, drop-paste}
 use borrow.Author.Tests.{lt-leb, leb-false}
 use Rattle.lines.specs.Said.{filled_to, said, longest_answer}
 use Rattle.frames.proofs.FrameLaws.{rest_all}
@@ -31,19 +30,6 @@ fed_count (b ∷ s) t n = either (eqb b 10) (λ e. rw e (completed_count t (n + 
 pub ended_count : (t : Trace) → (ended t).count ≤ length (ended t).answer
 unfolding ended resting
 ended_count t = either (eqb t.count 0) (λ e. rw e (omega arith)) (λ e. rw e (completed_count t 0))
-
--- an answer is copied byte by byte
-module _ (d a e : List ℕ) (at n i : ℕ) (u : at + n ≤ length d) (v : n ≤ 21) (w : length a ≡ 21) (p : e ≡ paste d at a i) where
-  pub put_turn : i < n → set e (at + i) (get_or a i 0) ≡ paste d at a (i + 1)
-  put_turn l =
-      let m : at + i < length d = omega arith in
-      let o : i < length a = omega arith in
-      ap (λ (x : List ℕ). set x (at + i) (get_or a i 0)) p ∙ paste-suc d at a i 0 m o ∙ ap (paste d at a) (sym (add-one i))
-
-  pub put_end : i ≤ n → n ≤ i → e ≡ paste d at a n
-  put_end l m =
-      let q : i ≡ n = omega arith in
-      p ∙ ap (paste d at a) q
 
 -- a buffer d of which w bytes are written, k bytes of the input are taken, and u is the trace after them
 pub record At (t : Trace) (s d₀ d : List ℕ) (u : Trace) (k w : ℕ) : Type 0 where

@@ -1,14 +1,13 @@
 -- The words of the record's master keys that are kept from line to line. Assumes nothing.
-use Prim.Native.Nat.{ℕ, zero, suc, ◌+◌, ◌≤◌, ◌<◌}
+use Prim.Native.Nat.{ℕ, zero, suc, ◌+◌, ◌≤◌}
 use native.Mathlib.Omega.{arith}
-use native.Mathlib.Numerals.{add-one}
 use mathlib.Core.Path.{◌≡◌, refl, sym, ap, subst, ◌∙◌}
 use mathlib.Core.Bool.{Bool, true, false, cond, false≢true}
-use mathlib.Core.List.{List, [], ◌∷◌, ◌++◌}
+use mathlib.Core.List.{List, [], ◌∷◌}
 use lib.Dec.{eqb, leb}
 use borrow.Author.Tests.{eqb-false}
 use lib.ListN.{length, get_or, take, set}
-use lib.Seq.{take_all, take-suc, take-suc-set}
+use lib.Seq.{take_all}
 use Rattle.derive.specs.Kept.{kept_words}
 use Rattle.derive.proofs.Laws.{length-kept}
 use Rattle.card.specs.Record.{Masters, masters}
@@ -22,17 +21,6 @@ use Rattle.trace.specs.declared.Fed.{Fed}
 use Rattle.trace.specs.declared.Words.{Words}
 use Rattle.trace.specs.Feeding.{line_of, extended, resting, completed, fed_from, fed}
 use Rattle.trace.specs.Inner.{no_words, Holds, Ready, left_of}
-
--- words written over as many, one by one
-pub words_turn : (ws made : List ℕ) (i : ℕ) → i < length ws → i < length made → take i ws ≡ take i made → take (i + 1) (set ws i (get_or made i 0)) ≡ take (i + 1) made
-words_turn ws made i l m e =
-    ap (λ (k : ℕ). take k (set ws i (get_or made i 0))) (add-one i)
-    ∙ take-suc-set ws i (get_or made i 0) l
-    ∙ ap (λ (s : List ℕ). s ++ get_or made i 0 ∷ []) e
-    ∙ sym (ap (λ (k : ℕ). take k made) (add-one i) ∙ take-suc made i 0 m)
-
-pub words_end : (ws made : List ℕ) (i : ℕ) → length ws ≡ 256 → length made ≡ 256 → 256 ≤ i → take i ws ≡ take i made → ws ≡ made
-words_end ws made i l m n e = sym (take_all i ws (omega arith)) ∙ e ∙ take_all i made (omega arith)
 
 -- none, and all
 pub kept_none : (ws key : List ℕ) → length ws ≡ 256 → Holds ws 0 key

@@ -46,6 +46,12 @@ struct Words {
     smc: usize,
 }
 
+const NO_WORDS: Words = Words {
+    ac: 0,
+    smi: 0,
+    smc: 0,
+};
+
 // A line fed, and the words left after it.
 #[derive(Clone, Copy)]
 struct Turned {
@@ -60,17 +66,16 @@ fn complete(t: Trace, ac: &[u64], smi: &[u64], smc: &[u64], taken: usize) -> Fed
 {
     let line = t.line;
     let s = frames::answer_kept(t.held, ac, smi, smc, line, t.count);
-    let after = s.held;
-    let text = s.answer;
+    let answer = s.answer;
     Fed {
         trace: Trace {
-            held: after,
+            held: s.held,
             line,
             count: 0,
         },
         taken,
         count: s.count,
-        answer: text,
+        answer,
     }
 }
 
@@ -100,12 +105,9 @@ fn feed_kept(t: Trace, ac: &[u64], smi: &[u64], smc: &[u64], input: &[u8]) -> Fe
     let held = t.held;
     let mut line = t.line;
     let mut count = t.count;
-    let mut i = 0;
-    while i < input.len() {
-        let b = input[i];
-        i += 1;
+    for (i, &b) in input.iter().enumerate() {
         if b == 10 {
-            return complete(Trace { held, line, count }, ac, smi, smc, i);
+            return complete(Trace { held, line, count }, ac, smi, smc, i + 1);
         }
         if count <= LONGEST {
             line[count] = b;
@@ -114,7 +116,7 @@ fn feed_kept(t: Trace, ac: &[u64], smi: &[u64], smc: &[u64], input: &[u8]) -> Fe
     }
     Fed {
         trace: Trace { held, line, count },
-        taken: i,
+        taken: input.len(),
         count: 0,
         answer: [0; LONGEST_ANSWER],
     }
@@ -140,19 +142,12 @@ fn put(out: &mut [u8], at: usize, answer: [u8; LONGEST_ANSWER], n: usize)
     requires { (at + n ≤ length out.old) × (n ≤ longest_answer) }
     ensures { out.new ≡ paste out.old at answer n }
 {
-    let mut i = 0;
-    while i < n {
-        out[at + i] = answer[i];
-        i += 1;
-    }
+    out[at..at + n].copy_from_slice(&answer[..n]);
 }
 
 // The sign of a text at a place; 0 past its end.
 fn sign(text: &[u8], at: usize) -> u8 {
-    if at < text.len() {
-        return text[at];
-    }
-    0
+    text.get(at).copied().unwrap_or(0)
 }
 
 // The words of a master key, made where they are used and there are none; and how many there are.
@@ -166,35 +161,18 @@ fn keep(words: &mut [u64], have: usize, used: bool, key: [u8; 32]) -> usize
     if !used {
         return 0;
     }
-    let made = derive::keep(key);
-    let mut i = 0;
-    while i < KEPT_WORDS {
-        words[i] = made[i];
-        i += 1;
-    }
+    words.copy_from_slice(&derive::keep(key));
     KEPT_WORDS
 }
 
 // Whether frame 0f uses AC: Open, Issuer answer and Counters do.
 fn uses_ac(f: u8) -> bool {
-    if f == b'1' {
-        return true;
-    }
-    if f == b'2' {
-        return true;
-    }
-    f == b'6'
+    matches!(f, b'1' | b'2' | b'6')
 }
 
 // Whether a line uses SMC: a PIN check does, and a script with instruction 2x.
 fn uses_smc(line: &[u8]) -> bool {
-    if sign(line, 1) == b'7' {
-        return true;
-    }
-    if sign(line, 1) != b'3' {
-        return false;
-    }
-    sign(line, 4) == b'2'
+    sign(line, 1) == b'7' || sign(line, 1) == b'3' && sign(line, 4) == b'2'
 }
 
 // The words of the keys that a line uses, by its first signs. A wrong guess costs time alone.
@@ -210,16 +188,10 @@ fn keep_used(
     ensures { Ready ac.new smi.new smc.new result (masters card) }
 {
     let frame = sign(line, 1);
-    let first = card.ac;
-    let second = card.smi;
-    let third = card.smc;
-    let a = keep(ac, have.ac, uses_ac(frame), first);
-    let b = keep(smi, have.smi, frame == b'3', second);
-    let c = keep(smc, have.smc, uses_smc(line), third);
     Words {
-        ac: a,
-        smi: b,
-        smc: c,
+        ac: keep(ac, have.ac, uses_ac(frame), card.ac),
+        smi: keep(smi, have.smi, frame == b'3', card.smi),
+        smc: keep(smc, have.smc, uses_smc(line), card.smc),
     }
 }
 
@@ -228,13 +200,10 @@ fn left(have: Words, high: u8, low: u8) -> Words
     ensures { result ≡ left_of have high low }
 {
     if lines::octet_of(high, low) == 0 {
-        return Words {
-            ac: 0,
-            smi: 0,
-            smc: 0,
-        };
+        NO_WORDS
+    } else {
+        have
     }
-    have
 }
 
 // Feeds a line, by the words of the keys that it uses; they are made where there are none, and what is left of them is kept.
@@ -250,14 +219,9 @@ fn turn(
     ensures { Turns (fed t input.now) ac.new smi.new smc.new result }
 {
     let used = keep_used(t.held.card, ac, smi, smc, have, input);
-    let a = used.ac;
-    let b = used.smi;
-    let c = used.smc;
-    let f = feed_kept(t, &ac[..a], &smi[..b], &smc[..c], input);
-    let after = f.trace;
-    let line = after.line;
-    let rest = left(used, line[0], line[1]);
-    Turned { fed: f, have: rest }
+    let fed = feed_kept(t, &ac[..used.ac], &smi[..used.smi], &smc[..used.smc], input);
+    let have = left(used, fed.trace.line[0], fed.trace.line[1]);
+    Turned { fed, have }
 }
 
 // Feeds bytes while there is room for the longest answer, and writes the answers at the start of a lent buffer; the rest of it stays. The master keys that
@@ -268,11 +232,7 @@ pub fn feed_into(t: Trace, input: &[u8], out: &mut [u8]) -> Filled
     let mut ac = [0; KEPT_WORDS];
     let mut smi = [0; KEPT_WORDS];
     let mut smc = [0; KEPT_WORDS];
-    let mut have = Words {
-        ac: 0,
-        smi: 0,
-        smc: 0,
-    };
+    let mut have = NO_WORDS;
     let mut after = t;
     let mut taken = 0;
     let mut written = 0;
@@ -282,8 +242,7 @@ pub fn feed_into(t: Trace, input: &[u8], out: &mut [u8]) -> Filled
         }
         let r = turn(after, &mut ac, &mut smi, &mut smc, have, &input[taken..]);
         let n = r.fed.count as usize;
-        let text = r.fed.answer;
-        put(out, written, text, n);
+        put(out, written, r.fed.answer, n);
         have = r.have;
         after = r.fed.trace;
         taken += r.fed.taken;

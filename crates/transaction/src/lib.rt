@@ -2,12 +2,12 @@
 #![tactic(auto)]
 
 ghost use Rattle.std.specs.Prelude.{◌≡◌};
-ghost use Rattle.transaction.specs.Transaction.{is_open, is_unmarked, none, pending_fits, rest_fits, kind_for, phase_for, just_opened as begunAs, is_arqc, mark_for, mark_after};
+ghost use Rattle.transaction.specs.Transaction.{is_open, none, pending_fits, rest_fits, kind_for, phase_for, just_opened as begunAs, is_arqc, mark_for, mark_after};
 
 use cryptogram::Kind;
 
 // Whether a transaction is open, and of what kind.
-#[derive(Clone, Copy)]
+#[derive(Clone, Copy, Debug, PartialEq, Eq)]
 pub enum Phase {
     Idle,
     Arqc,
@@ -15,7 +15,7 @@ pub enum Phase {
 }
 
 // What is pending for the block mark.
-#[derive(Clone, Copy)]
+#[derive(Clone, Copy, Debug, PartialEq, Eq)]
 pub enum PendingMark {
     Nothing,
     Set,
@@ -38,22 +38,7 @@ pub struct Transaction {
 pub fn is_open(phase: Phase) -> bool
     ensures { result ≡ is_open phase }
 {
-    match phase {
-        Phase::Idle => false,
-        Phase::Arqc => true,
-        Phase::Aac => true,
-    }
-}
-
-// Whether nothing is pending for the mark.
-fn is_unmarked(mark: PendingMark) -> bool
-    ensures { result ≡ is_unmarked mark }
-{
-    match mark {
-        PendingMark::Nothing => true,
-        PendingMark::Set => false,
-        PendingMark::Clear => false,
-    }
+    phase != Phase::Idle
 }
 
 // A transaction that is not open.
@@ -71,35 +56,27 @@ pub fn no_transaction() -> Transaction
 }
 
 // Whether a pending PIN is a PIN of n digits, or all zero where there are none.
+#[tactic(auto, unfolding(crate::specs::Transaction::pending_fits))]
 pub fn pending_fits(p: [u8; 12], n: u8) -> bool
     ensures { result ≡ pending_fits n p }
 {
     if n == 0 {
-        return octets::same(&p, &[0; 12]);
+        octets::same(&p, &[0; 12])
+    } else {
+        pin::pin_fits(&p, n as usize, 0)
     }
-    pin::pin_fits(&p, n as usize, 0)
 }
 
 // Whether the fields of a transaction are all zero where none is open; its pending PIN is looked at elsewhere.
+#[tactic(auto, unfolding(crate::specs::Transaction::rest_fits))]
 pub fn rest_fits(t: Transaction) -> bool
     ensures { result ≡ rest_fits t }
 {
-    let phase = t.phase;
-    if is_open(phase) {
-        return true;
-    }
-    let g = t.cryptogram;
-    if !octets::same(&g, &[0; 8]) {
-        return false;
-    }
-    if t.count != 0 {
-        return false;
-    }
-    let mark = t.mark;
-    if !is_unmarked(mark) {
-        return false;
-    }
-    !t.spoilt
+    is_open(t.phase)
+        || octets::same(&t.cryptogram, &[0; 8])
+            && t.count == 0
+            && t.mark == PendingMark::Nothing
+            && !t.spoilt
 }
 
 // The kind of the cryptogram that a card answers with, by its block mark.
@@ -134,11 +111,7 @@ pub fn begun(mark: bool, cryptogram: [u8; 8]) -> Transaction
 pub fn is_arqc(phase: Phase) -> bool
     ensures { result ≡ is_arqc phase }
 {
-    match phase {
-        Phase::Idle => false,
-        Phase::Arqc => true,
-        Phase::Aac => false,
-    }
+    phase == Phase::Arqc
 }
 
 // The pending mark that a command orders.

@@ -7,8 +7,7 @@ mod readings;
 ghost use Rattle.std.specs.Prelude.{◌≡◌, ◌≤◌, ◌<◌, length, OnErr};
 ghost use Rattle.std.specs.Io.{ReadsAtMost};
 
-use answers::{BlockAnswer, KeyAnswer};
-use cipher::CodeAnswer;
+use answers::Refusal;
 use cryptogram::Kind;
 use std::io;
 use std::io::{Read, Write};
@@ -25,23 +24,18 @@ fn find(text: &[u8], from: usize, sign: u8) -> usize
     requires { from ≤ length text.now }
     ensures { (from ≤ result) × (result ≤ length text.now) }
 {
-    let mut i = from;
-    while i < text.len() {
-        if text[i] == sign {
-            return i;
-        }
-        i += 1;
+    match text[from..].iter().position(|b| *b == sign) {
+        Some(i) => from + i,
+        None => text.len(),
     }
-    i
 }
 
 // The word after another, up to the next blank; none at the end.
 fn after(line: &[u8], w: Word) -> Word {
-    let to = w.to;
-    if line.len() <= to {
+    if line.len() <= w.to {
         return w;
     }
-    let from = to + 1;
+    let from = w.to + 1;
     Word {
         from,
         to: find(line, from, b' '),
@@ -50,23 +44,12 @@ fn after(line: &[u8], w: Word) -> Word {
 
 // The text of a word.
 fn part(line: &[u8], w: Word) -> &[u8] {
-    let from = w.from;
-    let to = w.to;
-    if line.len() < to {
-        return line;
-    }
-    if to < from {
-        return line;
-    }
-    &line[from..to]
+    line.get(w.from..w.to).unwrap_or(line)
 }
 
 // The first n of some bytes, or all of them.
 fn first(bytes: &[u8], n: usize) -> &[u8] {
-    if bytes.len() < n {
-        return bytes;
-    }
-    &bytes[..n]
+    bytes.get(..n).unwrap_or(bytes)
 }
 
 // The bytes of hexadecimal digits, put at the start of out; none where there is no room.
@@ -75,67 +58,48 @@ fn unhex(digits: &[u8], out: &mut [u8]) -> usize {
     if out.len() < n {
         return 0;
     }
-    let mut i = 0;
-    while i < n {
+    for i in 0..n {
         let high = octets::hex_value(digits[2 * i]) % 16;
         let low = octets::hex_value(digits[2 * i + 1]) % 16;
         out[i] = high * 16 + low;
-        i += 1;
     }
     n
 }
 
 // Writes bytes as hexadecimal digits.
 fn put<W: Write>(to: &mut W, bytes: &[u8]) -> io::Result<()> {
-    let mut i = 0;
-    while i < bytes.len() {
-        let digits = octets::hex(bytes[i]);
-        to.write_all(&digits)?;
-        i += 1;
+    for b in bytes {
+        to.write_all(&octets::hex(*b))?;
     }
     Ok(())
 }
 
-// What an operation answers: its refusal's number, or its bytes.
-fn answer<W: Write>(to: &mut W, code: u8, bytes: &[u8]) -> io::Result<()> {
+// What an operation answers: its bytes, or its refusal's number.
+fn answer<W: Write>(to: &mut W, r: Result<&[u8], Refusal>) -> io::Result<()> {
     to.write_all(b" ")?;
-    if code == 0 {
-        return put(to, bytes);
+    match r {
+        Ok(bytes) => put(to, bytes),
+        Err(why) => {
+            to.write_all(b"refused ")?;
+            put(to, &[why.number()])
+        }
     }
-    to.write_all(b"refused ")?;
-    put(to, &[code])
 }
 
-fn answer_block<W: Write>(to: &mut W, r: BlockAnswer) -> io::Result<()> {
-    let bytes = r.bytes;
-    answer(to, r.code, &bytes)
-}
-
-fn answer_code<W: Write>(to: &mut W, r: CodeAnswer) -> io::Result<()> {
-    let bytes = r.bytes;
-    answer(to, r.code, &bytes)
-}
-
-fn answer_key<W: Write>(to: &mut W, r: KeyAnswer) -> io::Result<()> {
-    let bytes = r.bytes;
-    answer(to, r.code, &bytes)
+fn answer_all<W: Write, const N: usize>(to: &mut W, r: Result<[u8; N], Refusal>) -> io::Result<()> {
+    match r {
+        Ok(bytes) => answer(to, Ok(&bytes)),
+        Err(why) => answer(to, Err(why)),
+    }
 }
 
 // A number of one or two bytes, high first.
 fn number(b: &[u8]) -> u16 {
-    if b.len() == 1 {
-        return wide(b[0]);
+    match b {
+        [x] => *x as u16,
+        [high, low] => octets::high_low(*high, *low),
+        _ => 0,
     }
-    if b.len() == 2 {
-        return wide(b[0]) * 256 + wide(b[1]);
-    }
-    0
-}
-
-fn wide(x: u8) -> u16
-    ensures { result < 256 }
-{
-    x as u16
 }
 
 // The IDN of as many bytes as n says.
@@ -143,9 +107,10 @@ fn idn<W: Write>(to: &mut W, key: &[u8], counter: &[u8], n: &[u8]) -> io::Result
     if n.len() != 1 {
         return Ok(());
     }
-    let r = keys::idn(key, number(counter), n[0]);
-    let bytes = r.bytes;
-    answer(to, r.code, first(&bytes, number(n) as usize))
+    match keys::idn(key, number(counter), n[0]) {
+        Ok(bytes) => answer(to, Ok(first(&bytes, n[0] as usize))),
+        Err(why) => answer(to, Err(why)),
+    }
 }
 
 fn card_key<W: Write>(
@@ -159,131 +124,71 @@ fn card_key<W: Write>(
         return Ok(());
     }
     if packed {
-        return answer_key(to, keys::card_key_packed(key, digits, sequence[0]));
+        return answer_all(to, keys::card_key_packed(key, digits, sequence[0]));
     }
-    answer_key(to, keys::card_key(key, digits, sequence[0]))
+    answer_all(to, keys::card_key(key, digits, sequence[0]))
 }
 
-// Whether the key kept gives the same bytes, where key, label and seed have the lengths for it.
-fn agrees_kept(key: &[u8], label: &[u8], seed: &[u8], bytes: &[u8]) -> bool {
-    if key.len() != 32 {
+// Whether the key kept gives the same answer, where key, label and seed have the lengths for it.
+fn agrees_kept(key: &[u8], label: &[u8], seed: &[u8], given: Result<[u8; 32], Refusal>) -> bool {
+    let (Ok(k), Ok(l), Ok(s)) = (
+        answers::exactly(key),
+        answers::exactly(label),
+        answers::exactly(seed),
+    ) else {
         return true;
-    }
-    if label.len() != 4 {
-        return true;
-    }
-    if seed.len() != 8 {
-        return true;
-    }
-    let l = [label[0], label[1], label[2], label[3]];
-    let s = [
-        seed[0], seed[1], seed[2], seed[3], seed[4], seed[5], seed[6], seed[7],
-    ];
-    let kept = derive::keep(derive::key_of(key));
-    let r = derive::derive_kept(&kept, l, s);
-    let x = r.bytes;
-    octets::same(bytes, &x)
+    };
+    derive::derive_kept(&derive::keep(k), l, s) == given
 }
 
 // The derivation with a label of its own; where the key kept gives another, no answer.
 fn labelled<W: Write>(to: &mut W, key: &[u8], label: &[u8], seed: &[u8]) -> io::Result<()> {
     let r = derive::derivation(key, label, seed);
-    let bytes = r.bytes;
-    if !agrees_kept(key, label, seed, &bytes) {
+    if !agrees_kept(key, label, seed, r) {
         return Ok(());
     }
-    answer(to, r.code, &bytes)
+    answer_all(to, r)
 }
 
-// The operations of `pin`.
-fn run_pins<W: Write>(to: &mut W, name: &[u8], a: &[u8], b: &[u8]) -> io::Result<()> {
-    if octets::same(name, b"write-pin") {
-        return answer_block(to, pin::write_pin(a));
+// The operations of `pin` and `cryptogram`.
+fn run_blocks<W: Write>(to: &mut W, name: &[u8], a: &[u8], b: &[u8], c: &[u8]) -> io::Result<()> {
+    match name {
+        b"write-pin" => answer_all(to, pin::write_pin(a)),
+        b"encipher-pin" => answer_all(to, pin::encipher_pin(a, b)),
+        b"arqc" => answer_all(to, cryptogram::cryptogram(a, Kind::Arqc, number(b), c)),
+        b"tc" => answer_all(to, cryptogram::cryptogram(a, Kind::Tc, number(b), c)),
+        b"aac" => answer_all(to, cryptogram::cryptogram(a, Kind::Aac, number(b), c)),
+        b"arpc" => answer_all(to, cryptogram::arpc(a, b, c)),
+        _ => to.write_all(b" unknown"),
     }
-    if octets::same(name, b"encipher-pin") {
-        return answer_block(to, pin::encipher_pin(a, b));
-    }
-    to.write_all(b" unknown")
 }
 
-// The operations of `cryptogram`.
-fn run_cryptograms<W: Write>(
-    to: &mut W,
-    name: &[u8],
-    a: &[u8],
-    b: &[u8],
-    c: &[u8],
-) -> io::Result<()> {
-    if octets::same(name, b"arqc") {
-        return answer_block(to, cryptogram::cryptogram(a, Kind::Arqc, number(b), c));
-    }
-    if octets::same(name, b"tc") {
-        return answer_block(to, cryptogram::cryptogram(a, Kind::Tc, number(b), c));
-    }
-    if octets::same(name, b"aac") {
-        return answer_block(to, cryptogram::cryptogram(a, Kind::Aac, number(b), c));
-    }
-    if octets::same(name, b"arpc") {
-        return answer_block(to, cryptogram::arpc(a, b, c));
-    }
-    run_pins(to, name, a, b)
-}
-
-// The operations of `keys`.
+// The operations of `hash`, `derive` and `keys`.
 fn run_keys<W: Write>(to: &mut W, name: &[u8], a: &[u8], b: &[u8], c: &[u8]) -> io::Result<()> {
-    if octets::same(name, b"card-key") {
-        return card_key(to, false, a, b, c);
+    match name {
+        b"hash" => answer(to, Ok(&hash::hash(a))),
+        b"hmac" => answer_all(to, derive::hmac(a, b)),
+        b"derive" => labelled(to, a, b, c),
+        b"card-key" => card_key(to, false, a, b, c),
+        b"card-key-packed" => card_key(to, true, a, b, c),
+        b"session-key" => answer_all(to, keys::session_key(a, number(b))),
+        b"script-key" => answer_all(to, keys::script_key(a, b)),
+        b"counter-key" => answer_all(to, keys::counter_key(a)),
+        b"idn" => idn(to, a, b, c),
+        _ => run_blocks(to, name, a, b, c),
     }
-    if octets::same(name, b"card-key-packed") {
-        return card_key(to, true, a, b, c);
-    }
-    if octets::same(name, b"session-key") {
-        return answer_key(to, keys::session_key(a, number(b)));
-    }
-    if octets::same(name, b"script-key") {
-        return answer_key(to, keys::script_key(a, b));
-    }
-    if octets::same(name, b"counter-key") {
-        return answer_key(to, keys::counter_key(a));
-    }
-    if octets::same(name, b"idn") {
-        return idn(to, a, b, c);
-    }
-    run_cryptograms(to, name, a, b, c)
 }
 
-// The operations of `hash` and `derive`.
-fn run_hash<W: Write>(to: &mut W, name: &[u8], a: &[u8], b: &[u8], c: &[u8]) -> io::Result<()> {
-    if octets::same(name, b"hash") {
-        return answer(to, 0, &hash::hash(a));
-    }
-    if octets::same(name, b"hmac") {
-        return answer_key(to, derive::hmac(a, b));
-    }
-    if octets::same(name, b"derive") {
-        return labelled(to, a, b, c);
-    }
-    run_keys(to, name, a, b, c)
-}
-
-// The operations of `cipher`, and the readings of the octet order.
+// The operations of `cipher`, the readings of the octet order, and the others.
 fn run<W: Write>(to: &mut W, name: &[u8], a: &[u8], b: &[u8], c: &[u8]) -> io::Result<()> {
-    if octets::same(name, b"code") {
-        return answer_code(to, cipher::code(a, b));
+    match name {
+        b"code" => answer_all(to, cipher::code(a, b)),
+        b"encipher" => answer_all(to, cipher::encipher(a, b)),
+        b"decipher" => answer_all(to, cipher::decipher(a, b)),
+        b"readings.code" => readings::code(to, a, b, c),
+        b"readings.idn" => readings::idn(to, a, b, c),
+        _ => run_keys(to, name, a, b, c),
     }
-    if octets::same(name, b"encipher") {
-        return answer_block(to, cipher::encipher(a, b));
-    }
-    if octets::same(name, b"decipher") {
-        return answer_block(to, cipher::decipher(a, b));
-    }
-    if octets::same(name, b"readings.code") {
-        return readings::code(to, a, b, c);
-    }
-    if octets::same(name, b"readings.idn") {
-        return readings::idn(to, a, b, c);
-    }
-    run_hash(to, name, a, b, c)
 }
 
 // The inputs after the operation's name, and the operation on them.
@@ -320,14 +225,8 @@ fn line_of<W: Write>(to: &mut W, line: &[u8]) -> io::Result<()> {
 
 // The lines of a text, one after the other.
 fn lines_of<W: Write>(to: &mut W, text: &[u8]) -> io::Result<()> {
-    let mut at = 0;
-    while at < text.len() {
-        let end = find(text, at, b'\n');
-        line_of(to, &text[at..end])?;
-        if text.len() <= end {
-            return Ok(());
-        }
-        at = end + 1;
+    for line in text.split_inclusive(|b| *b == b'\n') {
+        line_of(to, line.strip_suffix(b"\n").unwrap_or(line))?;
     }
     Ok(())
 }

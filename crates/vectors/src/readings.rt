@@ -7,9 +7,10 @@ use std::io::Write;
 // A word of four octets in one of the two orders.
 fn word(most: bool, a: u8, b: u8, c: u8, d: u8) -> u32 {
     if most {
-        return octets::word(d, c, b, a);
+        octets::word(d, c, b, a)
+    } else {
+        octets::word(a, b, c, d)
     }
-    octets::word(a, b, c, d)
 }
 
 // The subkeys of a key in one of the two orders; zeros where it is not 32 bytes.
@@ -18,11 +19,9 @@ fn subkeys(most: bool, key: &[u8]) -> [u32; 8] {
     if key.len() != 32 {
         return k;
     }
-    let mut j = 0;
-    while j < 8 {
+    for j in 0..8 {
         let i = 4 * j;
         k[j] = word(most, key[i], key[i + 1], key[i + 2], key[i + 3]);
-        j += 1;
     }
     k
 }
@@ -33,10 +32,9 @@ fn turned(s: &[u8], out: &mut [u8]) {
         return;
     }
     let n = s.len() / 8 * 8;
-    let mut i = 0;
-    while i < n {
-        out[i] = s[i - i % 8 + (7 - i % 8)];
-        i += 1;
+    out[..n].copy_from_slice(&s[..n]);
+    for block in out[..n].chunks_exact_mut(8) {
+        block.reverse();
     }
 }
 
@@ -50,10 +48,11 @@ fn candidate<W: Write>(to: &mut W, name: &[u8], value: &[u8], published: &[u8]) 
     to.write_all(b"\n  ")?;
     to.write_all(name)?;
     crate::put(to, value)?;
-    if octets::same(value, published) {
-        return to.write_all(b" yes");
+    if value == published {
+        to.write_all(b" yes")
+    } else {
+        to.write_all(b" no")
     }
-    to.write_all(b" no")
 }
 
 // The halves of a state in each order.
@@ -113,8 +112,8 @@ pub(crate) fn idn<W: Write>(
         published,
     )?;
     let c = [0, 0, 0, 0, 0, 0, counter[1], counter[0]];
-    let x = cipher::encipher_with(subkeys(true, key), c);
-    let most = [x[7], x[6], x[5], x[4], x[3], x[2], x[1], x[0]];
+    let mut most = cipher::encipher_with(subkeys(true, key), c);
+    most.reverse();
     candidate(
         to,
         b"most significant octet first  ",

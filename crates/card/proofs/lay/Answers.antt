@@ -1,8 +1,8 @@
 use Rattle.card.proofs.CallLaws.{laid_none, laid_some}
 use Rattle.card.proofs.lay.Goals as goal
 
-pub returns-then-t-eq0 : goal.returns-then-t-eq0
-returns-then-t-eq0 c = search laid_none
+pub returns-else-t-ne0 : goal.returns-else-t-ne0
+returns-else-t-ne0 c = search laid_none
 
-pub returns : goal.returns
-returns c = search laid_some
+pub returns-then-t-ne0 : goal.returns-then-t-ne0
+returns-then-t-ne0 c = search laid_some

@@ -5,8 +5,8 @@ use mathlib.Core.Bool.{not}
 use mathlib.Core.Path.{ap}
 use Rattle.card.proofs.obey.Goals as goal
 
-pub returns-then-n : goal.returns-then-n
-returns-then-n c = search obey_full
+pub returns-then-c-eq65535 : goal.returns-then-c-eq65535
+returns-then-c-eq65535 c = search obey_full
 
 pub returns-then-not-code_fits : goal.returns-then-not-code_fits
 unfolding smi_key
@@ -14,4 +14,4 @@ returns-then-not-code_fits c = λ smi smc. let e = c.script_key-key.ensures smi 
 
 pub returns : goal.returns
 unfolding smi_key
-returns c = λ smi smc. obey_taken c.args.c c.args.command _ _ _ c.if-n.false _ (c.script_key-key.ensures smi) _ c.code_fits.ensures (ap not c.if-not-code_fits.false) _ c.requires _ refl (c.take.ensures smc)
+returns c = λ smi smc. obey_taken c.args.c c.args.command _ _ _ c.if-c-eq65535.false _ (c.script_key-key.ensures smi) _ c.code_fits.ensures (ap not c.if-not-code_fits.false) _ c.requires _ refl (c.take.ensures smc)

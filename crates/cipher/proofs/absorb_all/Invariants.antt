@@ -1,12 +1,10 @@
 use mathlib.Core.Path.{◌≡◌}
-use Prim.Native.Nat.{◌-◌, ◌*◌, ◌≤◌}
-use lib.ListN.{drop}
-use Rattle.blocks.specs.Blocks.{taken}
+use Rattle.std.specs.Slice.Iter.{chunks_exact_rest, chunks_exact_size}
+use Rattle.blocks.specs.Blocks.{absorbed}
 use Rattle.cipher.specs.Code.{code_step}
 use Rattle.cipher.proofs.absorb_all.Given as goal
 
-abbrev pub invariant-loop-i : goal.invariant-loop-i
-invariant-loop-i l = (l.i ≤ l.n) × (taken 8 (code_step l.k) (l.n - l.i) l.t (drop (l.i * 8) l.m) ≡ taken 8 (code_step l.k) l.n l.initial.t l.m)
-
-abbrev pub decreases-loop-i : goal.decreases-loop-i
-decreases-loop-i l = l.n - l.i
+abbrev pub invariant-loop-b : goal.invariant-loop-b
+invariant-loop-b l =
+    (chunks_exact_size l.b-iterator ≡ 8)
+    × (absorbed 8 (code_step l.k) l.t (chunks_exact_rest l.b-iterator) ≡ absorbed 8 (code_step l.k) l.initial.t l.m)

@@ -1,16 +1,12 @@
-use mathlib.Core.Path.{◌≡◌, ap, ◌∙◌}
-use lib.ListN.{take}
-use lib.Seq.{take_all}
+use mathlib.Core.Path.{ap, ◌∙◌}
 use Rattle.gost.specs.declared.Halves.{Halves}
 use Rattle.gost.specs.Gost.{rounds, through, exchanged, halves, block}
 use Rattle.gost.proofs.Rounds.{rounds_up}
-use borrow.Author.Rules.{rules}
 use Rattle.cipher.proofs.encipher_with.Goals as goal
 
 pub returns : goal.returns
 unfolding through exchanged
 returns c = let x = c.args in
-    let e : take 8 x.b ≡ x.b = take_all 8 x.b (search rules) in
     c.block_of.ensures
     ∙ ap (λ (s : Halves). block (exchanged s))
-    (rounds_up x.k (halves x.b) c.reversed.ensures (c.eight.ensures ∙ ap (rounds x.k) (c.halves_at.ensures ∙ ap halves e)) c.eight-2.ensures c.eight-3.ensures c.eight-s.ensures)
+    (rounds_up x.k (halves x.b) c.reversed.ensures (c.eight.ensures ∙ ap (rounds x.k) c.halves_of.ensures) c.eight-2.ensures c.eight-3.ensures c.eight-s.ensures)

@@ -22,10 +22,7 @@ push_all-requires c = ready_of _ _ _ _ c.push_all-begun.ensures
 pub returns-then-m-need : goal.returns-then-m-need
 unfolding coding_of filled held
 returns-then-m-need c = let s = c.args.s in
-    let at = s.fill % 8 in
-    let z : at - 0 ≡ at = omega arith in
-    let e = ap (λ (k : ℕ). poured code_way (coding_of s.subkeys s.halves [] s.total) (take k s.buffer) s.total) z in
-    pour_short s c.args.m.now _ _ (c.push_all-begun.ensures ∙ e) c.push_all.ensures
+    pour_short s c.args.m.now _ _ c.push_all-begun.ensures c.push_all.ensures
 
 pub push_all-edge-requires : goal.push_all-edge-requires
 push_all-edge-requires c = ready_of _ _ _ _ c.push_all-begun.ensures
@@ -44,8 +41,6 @@ returns c = let s = c.args.s in
     let b : length s.buffer ≡ 8 = search (rules, c.well_formed) in
     let n : length (take at s.buffer) ≡ at = length_held_of s b in
     let le : need ≤ length m = c.if-m-need.false in
-    let z : at - 0 ≡ at = omega arith in
-    let y : need - 0 ≡ need = omega arith in
     let lo : need ≤ end = omega arith in
     let hi : end ≤ length m = omega arith in
     let hn : (length (take at s.buffer) + need) % 8 ≡ 0 = ap (λ (k : ℕ). (k + need) % 8) n ∙ omega arith in
@@ -57,8 +52,8 @@ returns c = let s = c.args.s in
     let t : Coding =
     record { subkeys = edge.result.subkeys; halves = full.result; buffer = edge.result.buffer; fill = edge.result.fill; total = edge.result.total } in
     pour_long s m need end lo hi hn he begun.result edge.result t _ full.result
-    (begun.ensures ∙ ap (λ (k : ℕ). poured code_way (coding_of s.subkeys s.halves [] s.total) (take k s.buffer) s.total) z)
-    (edge.ensures ∙ ap (λ (k : ℕ). poured code_way begun.result (take k m) begun.result.total) y)
+    begun.ensures
+    edge.ensures
     full.ensures
     refl
     (c.push_all-2.ensures ∙ ap (λ (x : List ℕ). poured code_way t x t.total) rest)

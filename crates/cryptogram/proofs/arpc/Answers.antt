@@ -1,20 +1,28 @@
 use mathlib.Core.Path.{ap, ◌∙◌}
+use Rattle.std.specs.Prelude.{Ok}
 use Rattle.gost.specs.Gost.{subkeys}
-use Rattle.answers.specs.Answers.{a_block}
-use Rattle.cryptogram.specs.Cryptogram.{double_code, arpc_of}
-use Rattle.cryptogram.proofs.AnswerLaws.{arpc_no_key, arpc_no_cryptogram, arpc_no_csu, arpc_made}
+use Rattle.cipher.proofs.AnswerLaws.{exact, not_exact}
+use Rattle.cryptogram.proofs.AnswerLaws.{arpc_no_key, arpc_no_cryptogram, arpc_no_csu, arpc_made, same_arpc}
 use Rattle.cryptogram.proofs.arpc.Goals as goal
 
-pub returns-then-key-ne32 : goal.returns-then-key-ne32
-returns-then-key-ne32 c = c.no_block.ensures ∙ search arpc_no_key
+pub returns-in_err-exactly : goal.returns-in_err-exactly
+returns-in_err-exactly c = let h = not_exact 32 _ _ c.exactly.ensures c.in_err-exactly.was _ c.from_residual.ensures.1 in h.1 ∙ arpc_no_key _ _ _ h.0
 
-pub returns-then-cryptogram-ne8 : goal.returns-then-cryptogram-ne8
-returns-then-cryptogram-ne8 c = c.no_block-then-cryptogram-ne8.ensures ∙ search arpc_no_cryptogram
+pub returns-in_err-exactly-2 : goal.returns-in_err-exactly-2
+returns-in_err-exactly-2 c =
+    let h = not_exact 8 _ _ c.exactly-2.ensures c.in_err-exactly-2.was _ c.from_residual-in_err-exactly-2.ensures.1 in
+    h.1 ∙ arpc_no_cryptogram _ _ _ h.0
 
-pub returns-then-csu-ne4 : goal.returns-then-csu-ne4
-returns-then-csu-ne4 c = c.no_block-then-csu-ne4.ensures ∙ search arpc_no_csu
+pub returns-in_err-exactly-3 : goal.returns-in_err-exactly-3
+returns-in_err-exactly-3 c =
+    let h = not_exact 4 _ _ c.exactly-3.ensures c.in_err-exactly-3.was _ c.from_residual-in_err-exactly-3.ensures.1 in
+    h.1 ∙ arpc_no_csu _ _ _ h.0
 
 pub returns : goal.returns
-unfolding arpc_of
-returns c = let x = c.args in
-    ap a_block (c.double_code-bytes.ensures ∙ ap (double_code (subkeys 8 x.key.now)) c.arpc_string.ensures) ∙ search arpc_made
+returns c =
+    let x = c.args in
+    let k = exact 32 _ _ c.exactly.ensures c.in_ok-exactly.was in
+    let g = exact 8 _ _ c.exactly-2.ensures c.in_ok-exactly-2.was in
+    let u = exact 4 _ _ c.exactly-3.ensures c.in_ok-exactly-3.was in
+    ap Ok (c.arpc_with.ensures ∙ same_arpc (c.expand-k.ensures ∙ ap (subkeys 8) k.1) g.1 u.1)
+    ∙ arpc_made x.key.now x.cryptogram.now x.csu.now k.0 g.0 u.0

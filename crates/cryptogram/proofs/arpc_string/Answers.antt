@@ -1,5 +1,6 @@
-use Rattle.cryptogram.proofs.DataLaws.{arpc_made}
+use borrow.Author.Rules.{rules}
+use Rattle.cryptogram.proofs.DataLaws.{arpc_laid}
 use Rattle.cryptogram.proofs.arpc_string.Goals as goal
 
 pub returns : goal.returns
-returns c = arpc_made c.args.cryptogram.now c.args.csu.now c.requires.0 c.requires.1
+returns c = arpc_laid c.args.cryptogram c.args.csu _ _ c.copy_from_slice.ensures.after c.copy_from_slice-2.ensures.after (search rules) (search rules)

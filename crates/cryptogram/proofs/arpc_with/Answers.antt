@@ -4,4 +4,4 @@ use Rattle.cryptogram.proofs.arpc_with.Goals as goal
 
 pub returns : goal.returns
 unfolding arpc_of
-returns c = c.double_code_with.ensures ∙ ap (double_code _) c.arpc_string.ensures
+returns c = c.double_code.ensures ∙ ap (double_code _) c.arpc_string.ensures

@@ -4,4 +4,4 @@ use Rattle.cryptogram.proofs.cryptogram_with.Goals as goal
 
 pub returns : goal.returns
 unfolding cryptogram_of
-returns c = c.double_code_with.ensures ∙ ap (double_code _) c.string_of.ensures
+returns c = c.double_code.ensures ∙ ap (double_code _) c.string_of.ensures

@@ -1,20 +1,22 @@
-use borrow.Author.Tests.{eq-eqb, ne_eqb}
+use mathlib.Core.Path.{sym, ap}
+use native.Mathlib.Omega.{arith}
+use borrow.Author.Tests.{ne_eqb}
 use Rattle.cryptogram.specs.Answers.{kind_number, kind_of}
 use Rattle.cryptogram.proofs.AnswerLaws.{reads_kind}
 use Rattle.cryptogram.proofs.kind_of.Goals as goal
 
-pub returns-then-n-eq128 : goal.returns-then-n-eq128
+pub returns-in-128 : goal.returns-in-128
 unfolding kind_of kind_number
-returns-then-n-eq128 c = reads_kind (simp (eq-eqb _ _ c.if-n-eq128.true))
+returns-in-128 c = reads_kind (sym (ap kind_of c.in-128.is))
 
-pub returns-then-n-eq64 : goal.returns-then-n-eq64
+pub returns-in-64 : goal.returns-in-64
 unfolding kind_of kind_number
-returns-then-n-eq64 c = reads_kind (simp (ne_eqb _ _ c.if-n-eq128.false, eq-eqb _ _ c.if-n-eq64.true))
+returns-in-64 c = reads_kind (sym (ap kind_of c.in-64.is))
 
-pub returns-then-n-eq0 : goal.returns-then-n-eq0
+pub returns-in-0 : goal.returns-in-0
 unfolding kind_of kind_number
-returns-then-n-eq0 c = reads_kind (simp (ne_eqb _ _ c.if-n-eq128.false, ne_eqb _ _ c.if-n-eq64.false, eq-eqb _ _ c.if-n-eq0.true))
+returns-in-0 c = reads_kind (sym (ap kind_of c.in-0.is))
 
-pub returns : goal.returns
+pub returns-in_default : goal.returns-in_default
 unfolding kind_of kind_number
-returns c = reads_kind (simp (ne_eqb _ _ c.if-n-eq128.false, ne_eqb _ _ c.if-n-eq64.false, ne_eqb _ _ c.if-n-eq0.false))
+returns-in_default c = reads_kind (simp (ne_eqb c.args.n 128 (λ z. omega arith), ne_eqb c.args.n 64 (λ z. omega arith), ne_eqb c.args.n 0 (λ z. omega arith)))

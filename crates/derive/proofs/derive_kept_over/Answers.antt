@@ -14,4 +14,4 @@ returns c = let a = c.args in
     let ws = a.kept.now in
     over_lent cs ws a.label a.seed c.if-kept-ne-KEPT_WORDS.false _ _ _ c.string-m.ensures
     (c.end_block-x.ensures ∙ ap (ended_block cs (take 128 ws) 128) c.last_block.ensures)
-    (c.end_block-bytes.ensures ∙ ap (ended_block cs (take (length ws - 128) (drop 128 ws)) 256) c.last_block-2.ensures)
+    (c.end_block.ensures ∙ ap (ended_block cs (take (length ws - 128) (drop 128 ws)) 256) c.last_block-2.ensures)

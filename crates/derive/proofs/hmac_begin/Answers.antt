@@ -1,8 +1,13 @@
+use mathlib.Core.Path.{ap, ◌∙◌}
+use Rattle.std.specs.Prelude.{Ok}
+use Rattle.derive.specs.Started.{started}
+use Rattle.derive.proofs.Laws.{exact, not_exact}
 use Rattle.derive.proofs.MacLaws.{begun_not, begun_fits}
 use Rattle.derive.proofs.hmac_begin.Goals as goal
 
-pub returns-then-key-ne32 : goal.returns-then-key-ne32
-returns-then-key-ne32 c = begun_not _ c.if-key-ne32.true _ _ c.begin.ensures c.begin-then-key-ne32.ensures
+pub returns-in_err-exactly : goal.returns-in_err-exactly
+returns-in_err-exactly c = let h = not_exact 32 _ _ c.exactly.ensures c.in_err-exactly.was _ c.from_residual.ensures.1 in h.1 ∙ begun_not _ h.0
 
 pub returns : goal.returns
-returns c = begun_fits _ c.if-key-ne32.false _ _ c.key_of.ensures c.start-state.ensures
+returns c = let e = exact 32 _ _ c.exactly.ensures c.in_ok-exactly.was in
+    ap Ok (c.start.ensures ∙ ap started e.1) ∙ begun_fits _ e.0

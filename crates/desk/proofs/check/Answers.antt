@@ -1,17 +1,14 @@
 use borrow.Author.Rules.{rules}
-use Rattle.desk.proofs.DeskLaws.{card_small, card_good, check_data, check_arqc, check_csu, check_two, check_unknown, check_held}
+use Rattle.std.proofs.Common.{arith, tests}
+use Rattle.desk.specs.Check.{checks}
+use Rattle.desk.proofs.DeskLaws.{card_small, card_good, check_two, check_unknown, check_held}
 use mathlib.Core.Bool.{not}
 use mathlib.Core.Path.{ap}
 use Rattle.desk.proofs.check.Goals as goal
 
 pub returns-then-data-ne65 : goal.returns-then-data-ne65
-returns-then-data-ne65 c = search (check_data, rules)
-
-pub returns-then-arqc-ne8 : goal.returns-then-arqc-ne8
-returns-then-arqc-ne8 c = search (check_arqc, rules)
-
-pub returns-then-csu-ne4 : goal.returns-then-csu-ne4
-returns-then-csu-ne4 c = search (check_csu, rules)
+unfolding checks
+returns-then-data-ne65 c = grind (arith, tests)
 
 pub returns-then-not-card_fits : goal.returns-then-not-card_fits
 returns-then-not-card_fits c = search (check_two, rules)

@@ -1,8 +1,5 @@
-use borrow.Author.Rules.{rules}
-use Rattle.answers.specs.declared.KeyAnswer.{KeyAnswer}
-use Rattle.exports.proofs.GiveLaws.{given}
+use Rattle.exports.proofs.GiveLaws.{given_as}
 use Rattle.exports.proofs.box_derive.Goals as goal
 
 pub returns : goal.returns
-returns c = let k = c.derive-r in
-    given (λ (a : KeyAnswer). a.code) (λ (a : KeyAnswer). a.bytes) 32 k.ensures (search rules) c.give.ensures
+returns c = given_as 32 c.derive.ensures c.give.ensures

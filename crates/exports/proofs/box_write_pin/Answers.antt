@@ -1,8 +1,5 @@
-use borrow.Author.Rules.{rules}
-use Rattle.answers.specs.declared.BlockAnswer.{BlockAnswer}
-use Rattle.exports.proofs.GiveLaws.{given}
+use Rattle.exports.proofs.GiveLaws.{given_as}
 use Rattle.exports.proofs.box_write_pin.Goals as goal
 
 pub returns : goal.returns
-returns c = let k = c.write_pin-r in
-    given (λ (a : BlockAnswer). a.code) (λ (a : BlockAnswer). a.bytes) 8 k.ensures (search rules) c.give.ensures
+returns c = given_as 8 c.write_pin.ensures c.give.ensures

@@ -1,8 +1,8 @@
 use Rattle.frames.proofs.FrameLaws.{bare_not, bare_so}
 use Rattle.frames.proofs.close.Goals as goal
 
-pub returns-then-rest-ne0 : goal.returns-then-rest-ne0
-returns-then-rest-ne0 c = search bare_not
+pub returns-then-not-is_empty : goal.returns-then-not-is_empty
+returns-then-not-is_empty c = search bare_not
 
 pub returns : goal.returns
 returns c = search bare_so

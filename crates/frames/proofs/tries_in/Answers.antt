@@ -4,5 +4,5 @@ use Rattle.frames.proofs.tries_in.Goals as goal
 pub returns-then-rest-eq116 : goal.returns-then-rest-eq116
 returns-then-rest-eq116 c = search tries_given
 
-pub returns : goal.returns
-returns c = search tries_full
+pub returns-else-rest-eq116 : goal.returns-else-rest-eq116
+returns-else-rest-eq116 c = search tries_full

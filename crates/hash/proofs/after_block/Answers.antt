@@ -10,5 +10,5 @@ use Rattle.hash.proofs.after_block.Goals as goal
 pub returns : goal.returns
 unfolding after_block
 returns c = let a = c.args in
-    let n = c.add-n2.ensures ∙ ap (λ (v : List ℕ). a.c.n ⊞ v) (vec_word a.bits (search rules)) in
-    λ k. record { h = a.h; n = n k; sigma = c.add-s2.ensures k }
+    let n = c.add.ensures ∙ ap (λ (v : List ℕ). a.c.n ⊞ v) (vec_word a.bits (search rules)) in
+    λ k. record { h = a.h; n = n k; sigma = c.add-2.ensures k }

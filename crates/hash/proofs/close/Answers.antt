@@ -16,6 +16,6 @@ returns c = let a = c.args in
     let cs = a.cs.now in
     let z = vec 0 in
     let x = g_over cs z a.c.h a.c.n in
-    c.digest.ensures
-    ∙ ap bytes (c.compress_upper.ensures ∙ ap (λ (h : List ℕ). drop 4 (g_over cs z h a.c.sigma)) c.compress_over.ensures)
+    c.put_words.ensures
+    ∙ ap bytes (c.compress_upper-v.ensures ∙ ap (λ (h : List ℕ). drop 4 (g_over cs z h a.c.sigma)) c.compress_over.ensures)
     ∙ bytes_upper (g_over cs z x a.c.sigma) (length_over cs z x a.c.sigma)

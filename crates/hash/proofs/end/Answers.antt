@@ -1,6 +1,6 @@
 use mathlib.Core.Path.{◌≡◌, sym, ap, ap₂, ◌∙◌}
 use mathlib.Core.List.{List}
-use Prim.Native.Nat.{ℕ, ◌-◌, ◌*◌, ◌%◌}
+use Prim.Native.Nat.{ℕ, ◌*◌, ◌%◌}
 use native.Mathlib.Omega.{arith}
 use lib.ListN.{length, take}
 use lib.Seq.{length-take-le}
@@ -9,7 +9,7 @@ use Rattle.rounds.specs.Keys.{g_block}
 use Rattle.rounds.proofs.KeyLaws.{g_block_lem}
 use Rattle.hash.specs.Hash.{after_block, advanced, padded, finished}
 use Rattle.hash.specs.States.{held, ended}
-use Rattle.hash.specs.Ahead.{closed_over, last_block}
+use Rattle.hash.specs.Ahead.{closed_over}
 use Rattle.hash.proofs.Laws.{closed_over_lem}
 use Rattle.hash.proofs.AheadLaws.{last_short}
 use borrow.Author.Rules.{rules}
@@ -24,8 +24,7 @@ returns c = let s = c.args.s in
     let b : length s.buffer ≡ 64 = search (rules, c.well_formed) in
     let n : length t ≡ at = length-take-le at s.buffer (omega arith) in
     let bits : at * 8 ≡ 8 * length t = omega arith in
-    let z : at - 0 ≡ at = omega arith in
-    let m : last.result ≡ words (padded t) = last.ensures ∙ ap (λ (k : ℕ). last_block (take k s.buffer)) z ∙ sym (last_short t (omega arith)) in
+    let m : last.result ≡ words (padded t) = last.ensures ∙ sym (last_short t (omega arith)) in
     let made = c.iteration_constants-cs.ensures in
     let h =
     c.compress_block_over.ensures

@@ -1,14 +1,14 @@
-use Rattle.keys.proofs.CardLaws.{too_short, too_long, too_high, card_fits_lem}
+use Rattle.std.proofs.Common.{arith}
+use Rattle.std.proofs.lemmas.Grind.{common_steps}
+use Rattle.std.proofs.lemmas.Bool.Decides.{nat_tests}
+use Rattle.keys.specs.CardNumber.{card_fits}
+use Rattle.keys.proofs.card_fits.Goals.{then-pan-ge12, else-pan-ge12, then-pan-le19, else-pan-le19}
 use Rattle.keys.proofs.card_fits.Goals as goal
 
-pub returns-then-pan-lt12 : goal.returns-then-pan-lt12
-returns-then-pan-lt12 c = search too_short
+pub returns-then-digits : goal.returns-then-digits
+unfolding card_fits
+returns-then-digits c = grind (arith, common_steps, nat_tests)
 
-pub returns-then-pan-gt19 : goal.returns-then-pan-gt19
-returns-then-pan-gt19 c = search too_long
-
-pub returns-then-sequence-gt99 : goal.returns-then-sequence-gt99
-returns-then-sequence-gt99 c = search too_high
-
-pub returns : goal.returns
-returns c = search card_fits_lem
+pub returns-else-digits : goal.returns-else-digits
+unfolding card_fits
+returns-else-digits c = grind (arith, common_steps, nat_tests)

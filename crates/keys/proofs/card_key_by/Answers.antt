@@ -16,17 +16,13 @@ returns-then-key-ne32 c = card_no_key _ _ _ _ c.if-key-ne32.true
 pub returns-then-not-card_fits : goal.returns-then-not-card_fits
 returns-then-not-card_fits c = card_no_card _ _ _ _ c.if-key-ne32.false c.card_fits.result c.card_fits.ensures (ap not c.if-not-card_fits.true)
 
-pub sixteen-requires : goal.sixteen-requires
-sixteen-requires c = let f = fits _ _ (sym c.card_fits.ensures ∙ not-false _ (ap not c.if-not-card_fits.false)) in
-    f.most
-
-pub pair_up-y-requires : goal.pair_up-y-requires
-pair_up-y-requires c = let f = fits _ _ (sym c.card_fits.ensures ∙ not-false _ (ap not c.if-not-card_fits.false)) in
+pub pair_up-requires : goal.pair_up-requires
+pair_up-requires c = let f = fits _ _ (sym c.card_fits.ensures ∙ not-false _ (ap not c.if-not-card_fits.false)) in
     (c.requires, ap (digits 0 16) c.sixteen.ensures ∙ sixteen_digits _ _ f)
 
 pub returns : goal.returns
 returns c = let x = c.args in
     let s = sixteen (X x.pan.now x.sequence) in
-    let y : c.pair_up-y.result ≡ pairs x.base s = c.pair_up-y.ensures ∙ ap (pairs x.base) c.sixteen.ensures in
+    let y : c.pair_up.result ≡ pairs x.base s = c.pair_up.ensures ∙ ap (pairs x.base) c.sixteen.ensures in
     c.derive.ensures ∙ ap (card_derivation x.key.now) y
     ∙ card_yes x.key.now x.pan.now x.sequence (pairs x.base s) c.if-key-ne32.false c.card_fits.result c.card_fits.ensures (ap not c.if-not-card_fits.false) (length_pairs x.base s 8 (length-sixteen (X x.pan.now x.sequence)))

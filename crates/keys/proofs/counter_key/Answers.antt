@@ -1,5 +1,5 @@
 use mathlib.Core.Path.{ap, ◌∙◌}
-use Rattle.answers.specs.Answers.{a_key}
+use Rattle.std.specs.Prelude.{Ok}
 use Rattle.keys.proofs.AnswerLaws.{counter_no_key, counter_yes}
 use Rattle.keys.proofs.counter_key.Goals as goal
 
@@ -7,4 +7,4 @@ pub returns-then-session-ne32 : goal.returns-then-session-ne32
 returns-then-session-ne32 c = counter_no_key _ c.if-session-ne32.true
 
 pub returns : goal.returns
-returns c = ap a_key c.hash-bytes.ensures ∙ counter_yes _ c.if-session-ne32.false
+returns c = ap Ok c.hash.ensures ∙ counter_yes _ c.if-session-ne32.false

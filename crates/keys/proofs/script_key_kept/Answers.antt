@@ -1,16 +1,18 @@
-use mathlib.Core.Path.{◌≡◌, sym, ap₂, ◌∙◌}
-use lib.ListN.{length}
-use Rattle.octets.proofs.Parts.{elements_all}
+use mathlib.Core.Path.{sym, ap, ◌∙◌}
+use mathlib.Core.List.{List}
+use Prim.Native.Nat.{ℕ}
+use Rattle.std.specs.Prelude.{Err}
+use Rattle.std.proofs.lemmas.Result.{err_from_is_err_and}
 use Rattle.derive.specs.Answers.{derivation_kept}
 use Rattle.keys.proofs.AnswerLaws.{script_no_seed, script_seed}
 use Rattle.keys.proofs.script_key_kept.Goals as goal
 
-pub returns-then-cryptogram-ne8 : goal.returns-then-cryptogram-ne8
-returns-then-cryptogram-ne8 c = script_no_seed _ _ c.if-cryptogram-ne8.true
+pub returns-in_err-exactly : goal.returns-in_err-exactly
+returns-in_err-exactly c = let a = c.args in
+    let p = err_from_is_err_and c.from_residual.result c.from_residual.ensures.1 in
+    p.1 ∙ ap Err p.2 ∙ script_no_seed a.kept.now a.cryptogram.now _ (sym c.in_err-exactly.was ∙ c.exactly.ensures)
 
 pub returns : goal.returns
 returns c = let a = c.args in
-    let ws = a.kept.now in
-    let seed = a.cryptogram.now in
-    let h : length seed ≡ 8 = c.if-cryptogram-ne8.false in
-    c.derive_kept.ensures ∙ ap₂ (derivation_kept ws) c.card_label.ensures (sym (elements_all seed 8 h)) ∙ script_seed ws seed h
+    c.derive_kept.ensures ∙ ap (λ (l : List ℕ). derivation_kept a.kept.now l c.in_ok-exactly.field-0) c.card_label.ensures
+    ∙ script_seed a.kept.now a.cryptogram.now _ (sym c.in_ok-exactly.was ∙ c.exactly.ensures)

@@ -1,16 +1,13 @@
-use mathlib.Core.Path.{refl}
-use Rattle.lines.proofs.LineLaws.{legible_foreign, legible_turn, legible_end}
+use Prim.Native.Nat.{◌<◌, ◌≤◌}
+use Rattle.std.proofs.lemmas.Iterator.{cases_from_all, YieldsList-from_slice}
+use Rattle.octets.specs.Digits.{hex_value}
+use Rattle.lines.proofs.LineLaws.{legible_by}
 use borrow.Author.Rules.{rules}
+use borrow.Author.Tests.{tests}
 use Rattle.lines.proofs.is_legible.Goals as goal
 
-pub loop-i-init : goal.loop-i-init
-loop-i-init c = (search rules, refl)
-
-pub returns-then-hex_value-gt15 : goal.returns-then-hex_value-gt15
-returns-then-hex_value-gt15 c = search legible_foreign
-
-pub loop-i-preserved : goal.loop-i-preserved
-loop-i-preserved c = (search rules, search legible_turn)
-
 pub returns : goal.returns
-returns c = search legible_end
+returns c =
+    legible_by c.args.text.now c.all.result
+    (cases_from_all _ _ _ (λ x. hex_value x < 16) (λ x. 16 ≤ hex_value x) c.all.ensures.ran (YieldsList-from_slice c.args.text.now cc)
+    (λ x q k. search (rules, tests)) (λ x q k. search (rules, tests)))

@@ -1,7 +1,6 @@
-use mathlib.Core.Path.{refl}
-use Rattle.octets.specs.Numbers.{le_octets}
+use mathlib.Core.Path.{◌∙◌}
+use Rattle.lps.proofs.Bytes.{bytes_low_first_lem}
 use Rattle.lps.proofs.bytes_of.Goals as goal
 
 pub returns : goal.returns
-unfolding le_octets
-returns c = refl
+returns c = c.to_le_bytes.ensures ∙ bytes_low_first_lem 8 c.args.w

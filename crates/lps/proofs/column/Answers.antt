@@ -12,9 +12,6 @@ pub byte-requires : goal.byte-requires
 byte-requires c = let pre = c.requires in
     (c.loop-j.invariant.long, pre.1, pre.2, omega arith)
 
-pub overflow_add-j : goal.overflow_add-j
-overflow_add-j c = omega (arith, c.byte.ensures.1)
-
 pub loop-j-preserved : goal.loop-j-preserved
 loop-j-preserved c = let l = c.loop-j in
     let a = c.args in

@@ -2,13 +2,13 @@ use mathlib.Core.Path.{◌≡◌, sym, ap, ap₂, ◌∙◌}
 use mathlib.Core.List.{List}
 use Prim.Native.Nat.{ℕ, ◌+◌}
 use native.Mathlib.Omega.{arith}
-use lib.ListN.{length, take, length-set}
+use lib.ListN.{length, take}
 use lib.Seq.{length-take-le}
 use Rattle.shapes.specs.Shape.{body_size, body_size_under}
 use Rattle.shapes.proofs.LengthLaws.{largest_small, place_small}
 use Rattle.message.specs.Code.{code_for}
 use Rattle.octets.specs.Laid.{laid}
-use Rattle.message.proofs.WrapLaws.{code_stored}
+use Rattle.message.proofs.WrapLaws.{copied}
 use borrow.Author.Rules.{rules}
 use Rattle.message.proofs.write_code.Goals as goal
 
@@ -26,20 +26,13 @@ code_for-code-requires c = let k = c.place_of.result + c.args.n + 2 in
     let l : length (take k c.args.part.now) ≡ k = length-take-le k c.args.part.now (omega arith) in
     (c.requires.0, omega (arith, place_small c.args.n, largest_small))
 
-pub bounds-part-k-2 : goal.bounds-part-k-2
-bounds-part-k-2 c = simp length-set (omega arith)
-
-pub bounds-part-k-3 : goal.bounds-part-k-3
-bounds-part-k-3 c = simp length-set (omega arith)
-
-pub bounds-part-k-4 : goal.bounds-part-k-4
-bounds-part-k-4 c = simp length-set (omega arith)
-
 pub returns : goal.returns
 unfolding body_size_under
-returns c = let x = c.args in
+returns c =
+    let x = c.args in
     let b = x.part.now in
     let k = c.place_of.result + x.n + 2 in
     let e : k ≡ body_size x.n = ap (λ (p : ℕ). p + x.n + 2) c.place_of.ensures in
-    code_stored b k c.code_for-code.result (search rules) (omega arith)
+    let l : length c.code_for-code.result ≡ 4 = search rules in
+    copied b k _ c.code_for-code.result _ c.copy_from_slice.ensures.after (omega (arith, l))
     ∙ ap₂ (λ (p : ℕ) (t : List ℕ). laid b p t) e (c.code_for-code.ensures ∙ ap (λ (p : ℕ). code_for x.key.now x.header.now (take p b)) e)

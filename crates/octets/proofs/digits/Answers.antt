@@ -1,21 +1,22 @@
--- The digits that are left, from the place reached. Assumes nothing.
-use mathlib.Core.Path.{refl}
-use native.Mathlib.Omega.{arith}
-use Rattle.octets.proofs.DigitLaws.{digits_filler, digits_high, digits_rest, digits_more, digits_end}
-use Rattle.octets.proofs.digits.Goals.{then-left-eq0+else-x-filler, else-left-eq0+else-x-gt9}
+use Rattle.std.proofs.Common.{◌≡◌, ◌≤◌, get_or, take, drop, IsTrue, ◌↔◌, rules}
+use Rattle.std.specs.List.{EachIndex}
+use Rattle.octets.proofs.DigitLaws.{digits_few, digits_not, digits_cut}
 use Rattle.octets.proofs.digits.Goals as goal
 
-pub loop-i-init : goal.loop-i-init
-loop-i-init c = (omega arith, omega arith, refl)
+pub returns-then-n-s : goal.returns-then-n-s
+returns-then-n-s c = digits_few _ _ _ c.if-n-s.true
 
-pub returns-then-x-filler : goal.returns-then-x-filler
-returns-then-x-filler c = search digits_filler
+pub returns-then-all : goal.returns-then-all
+returns-then-all c =
+    let n = c.args.n in
+    let s = c.args.s.now in
+    let p : IsTrue c.all.result ↔ EachIndex (take n s) (λ k. get_or (take n s) k 0 ≤ 9) = search rules in
+    let q : IsTrue c.all-then-all.result ↔ EachIndex (drop n s) (λ k. get_or (drop n s) k 0 ≡ c.args.filler) = search rules in
+    digits_cut c.args.filler n s c.if-n-s.false c.all.result p c.if-all.true c.all-then-all.result q
 
-pub returns-then-x-gt9 : goal.returns-then-x-gt9
-returns-then-x-gt9 c = search digits_high
-
-pub loop-i-preserved : goal.loop-i-preserved
-loop-i-preserved c = elim c.if-left-eq0.branch [ then-left-eq0+else-x-filler w ↦ (omega arith, omega arith, search digits_rest) | else-left-eq0+else-x-gt9 w ↦ (omega arith, omega arith, search digits_more) ]
-
-pub returns : goal.returns
-returns c = search digits_end
+pub returns-else-all : goal.returns-else-all
+returns-else-all c =
+    let n = c.args.n in
+    let s = c.args.s.now in
+    let p : IsTrue c.all.result ↔ EachIndex (take n s) (λ k. get_or (take n s) k 0 ≤ 9) = search rules in
+    digits_not c.args.filler n s c.if-n-s.false c.all.result p c.if-all.false

@@ -1,20 +1,20 @@
--- No difference so far and equal rests are equal strings. Assumes nothing.
-use mathlib.Core.Path.{refl, sym, ◌∙◌}
-use native.Mathlib.Omega.{arith}
-use borrow.Author.Rules.{rules}
+use Rattle.std.proofs.Common.{◌≡◌, length, rules, ap, ap₂, sym, ◌∙◌}
+use mathlib.Core.Logic.{inl, inr}
+use Rattle.octets.specs.Same.{same}
 use Rattle.octets.proofs.SameLaws.{same_length, same_turn, same_end}
 use Rattle.octets.proofs.same.Goals as goal
 
 pub returns-then-a-b : goal.returns-then-a-b
 returns-then-a-b c = search same_length
 
-pub loop-i-init : goal.loop-i-init
-loop-i-init c = (omega arith, search rules, refl)
+pub loop-x-init : goal.loop-x-init
+loop-x-init c =
+    let p : c.into_iter-x-iterator.result.a.rest.now ≡ c.args.a.now = search rules in
+    let q : c.into_iter-x-iterator.result.b.rest.now ≡ c.args.b.now = search rules in
+    (ap length p ∙ c.if-a-b.false ∙ sym (ap length q), ap₂ same p q)
 
-pub loop-i-preserved : goal.loop-i-preserved
-loop-i-preserved c = let l = c.loop-i in
-    (omega arith, l.invariant.1, same_turn _ _ l.differ l.i (omega arith) l.invariant.1 ∙ l.invariant.2)
+pub loop-x-preserved : goal.loop-x-preserved
+loop-x-preserved c = let h = c.in-Some.ensures.steps in same_turn _ _ _ _ _ _ _ _ h.0 h.1 c.loop-x.invariant
 
 pub returns : goal.returns
-returns c = let l = c.loop-i in
-    sym (same_end _ _ l.differ l.i (omega arith) l.invariant.1) ∙ l.invariant.2
+returns c = same_end _ _ _ _ c.loop-x.invariant (elim c.in-None.ensures.steps [ inl w ↦ inl w.1.0 | inr w ↦ inr w.1.0 ])

@@ -1,9 +1,12 @@
--- `parts::word_at` meets its contract: four bytes, one by one. Assumes nothing.
-use mathlib.Core.Path.{refl, sym, ap, ◌∙◌}
-use native.Mathlib.Nat.{add-zero}
+-- `parts::word_at` meets its contract: std's word is ours. Assumes nothing.
+use mathlib.Core.Path.{◌≡◌, ap, ◌∙◌}
+use lib.ListN.{length}
 use Rattle.octets.specs.Numbers.{le}
-use Rattle.octets.proofs.Parts.{elements_part}
+use Rattle.parts.proofs.LayLaws.{word_read}
+use borrow.Author.Rules.{rules}
 use Rattle.parts.proofs.word_at.Goals as goal
 
 pub returns : goal.returns
-returns c = c.word.ensures ∙ sym (ap le (elements_part c.args.b.now c.args.p 4 c.requires ∙ rw add-zero refl))
+returns c = let r = c.bytes_at in
+    let n : length r.result ≡ 4 = search (rules, r.type_inv) in
+    c.from_le_bytes.ensures ∙ word_read r.result n ∙ ap le r.ensures

@@ -1,20 +1,18 @@
-use mathlib.Core.Path.{sym, ap, ◌∙◌}
-use borrow.Author.Tests.{not-false}
-use Rattle.cipher.specs.Answers.{enciphered}
-use Rattle.pin.proofs.AnswerLaws.{encipher_no_key, encipher_no_digits, encipher_yes}
-use mathlib.Core.Bool.{not}
+use mathlib.Core.Path.{ap, ◌∙◌}
+use Rattle.std.specs.Prelude.{Ok}
+use Rattle.cipher.proofs.AnswerLaws.{exact, not_exact}
+use Rattle.pin.proofs.AnswerLaws.{encipher_no_key, encipher_refused, encipher_made, encipher_yes}
 use Rattle.pin.proofs.encipher_pin.Goals as goal
 
-pub returns-then-key-ne32 : goal.returns-then-key-ne32
-returns-then-key-ne32 c = c.no_block.ensures ∙ search encipher_no_key
+pub returns-in_err-exactly : goal.returns-in_err-exactly
+returns-in_err-exactly c = let h = not_exact 32 _ _ c.exactly.ensures c.in_err-exactly.was _ c.from_residual.ensures.1 in h.1 ∙ encipher_no_key _ _ h.0
 
-pub returns-then-not-pin_fits : goal.returns-then-not-pin_fits
-returns-then-not-pin_fits c = c.no_block-then-not-pin_fits.ensures ∙ search encipher_no_digits
-
-pub block_of-b-requires : goal.block_of-b-requires
-block_of-b-requires c = sym c.pin_fits.ensures ∙ not-false _ (ap not c.if-not-pin_fits.false)
+pub returns-in_err-write_pin : goal.returns-in_err-write_pin
+returns-in_err-write_pin c =
+    let k = exact 32 _ _ c.exactly.ensures c.in_ok-exactly.was in
+    encipher_refused _ _ k.0 c.write_pin.ensures _ c.in_err-write_pin.was _ c.from_residual-in_err-write_pin.ensures.1
 
 pub returns : goal.returns
-returns c = let x = c.args in
-    encipher_yes x.digits.now _ c.pin_fits.ensures x.key.now c.if-key-ne32.false (ap not c.if-not-pin_fits.false)
-    c.encipher-r.result (c.encipher-r.ensures ∙ ap (enciphered x.key.now) c.block_of-b.ensures)
+returns c =
+    let k = exact 32 _ _ c.exactly.ensures c.in_ok-exactly.was in
+    ap Ok (encipher_made _ c.expand-k.ensures k.1 c.encipher_with.ensures) ∙ encipher_yes _ _ k.0 c.write_pin.ensures _ c.in_ok-write_pin.was

@@ -1,6 +1,6 @@
 use mathlib.Core.Path.{◌≡◌}
 use mathlib.Core.List.{List, map}
-use Prim.Native.Nat.{ℕ, ◌-◌, ◌%◌, ◌≤◌}
+use Prim.Native.Nat.{ℕ, ◌%◌, ◌≤◌}
 use lib.Seq.{paste}
 use Rattle.octets.specs.Digits.{pairs}
 use Rattle.pin.proofs.join.Given as goal
@@ -10,6 +10,3 @@ made h = pairs 16 (map (λ x. x % 16) h)
 
 abbrev pub invariant-loop-i : goal.invariant-loop-i
 invariant-loop-i l = (l.i ≤ 8) × (l.r ≡ paste l.initial.r 0 (made l.h) l.i)
-
-abbrev pub decreases-loop-i : goal.decreases-loop-i
-decreases-loop-i l = 8 - l.i

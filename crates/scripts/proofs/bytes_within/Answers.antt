@@ -2,9 +2,6 @@ use native.Mathlib.Omega.{arith}
 use Rattle.scripts.proofs.WithinLaws.{within_stop, within_turn, within_end}
 use Rattle.scripts.proofs.bytes_within.Goals as goal
 
-pub loop-k-init : goal.loop-k-init
-loop-k-init c = let w = c.requires.start in (omega arith, omega arith, omega arith, omega arith)
-
 pub object_at-o-requires : goal.object_at-o-requires
 object_at-o-requires c = let w = c.requires.inside in omega arith
 
@@ -14,9 +11,6 @@ returns-then-o-level c = let l = c.loop-k in
     let z = within_stop x.level x.n x.objects.now l.k (omega arith) c.object_at-o.result c.object_at-o.ensures c.if-o-level.true in
     let e = l.invariant.3 in
     omega arith
-
-pub offset_bounds-lengths-k : goal.offset_bounds-lengths-k
-offset_bounds-lengths-k c = let w = c.requires.few in omega arith
 
 pub bounds-lengths-k : goal.bounds-lengths-k
 bounds-lengths-k c = let w = c.requires.few in
@@ -28,9 +22,6 @@ added_by-sum-requires c = c.object_at-o.ensures.short
 
 pub overflow_add-sum : goal.overflow_add-sum
 overflow_add-sum c = let w = c.requires.few in let a = c.added_by-sum.ensures.small in omega arith
-
-pub overflow_add-k : goal.overflow_add-k
-overflow_add-k c = let w = c.requires.few in omega arith
 
 pub loop-k-preserved : goal.loop-k-preserved
 loop-k-preserved c = let l = c.loop-k in

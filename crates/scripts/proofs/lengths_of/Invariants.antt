@@ -3,6 +3,3 @@ use Rattle.scripts.proofs.lengths_of.Given as goal
 
 abbrev pub invariant-loop-i : goal.invariant-loop-i
 invariant-loop-i l = Within l.n l.objects l.i l.lengths
-
-abbrev pub decreases-loop-i : goal.decreases-loop-i
-decreases-loop-i l = l.i

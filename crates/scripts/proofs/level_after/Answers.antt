@@ -4,5 +4,5 @@ use Rattle.scripts.proofs.level_after.Goals as goal
 pub returns-then-is_template : goal.returns-then-is_template
 returns-then-is_template c = search level_template
 
-pub returns : goal.returns
-returns c = search level_data
+pub returns-else-is_template : goal.returns-else-is_template
+returns-else-is_template c = search level_data

@@ -1,11 +1,6 @@
-use borrow.Author.Tests.{le-leb, lt-leb}
-use Rattle.scripts.specs.Inner.{firsts}
+use mathlib.Core.Path.{◌∙◌}
+use Rattle.scripts.proofs.WithinLaws.{firsts_min}
 use Rattle.scripts.proofs.measured.Goals as goal
 
-pub returns-then-n-le192 : goal.returns-then-n-le192
-unfolding firsts
-returns-then-n-le192 c = simp (le-leb _ _ c.if-n-le192.true)
-
 pub returns : goal.returns
-unfolding firsts
-returns c = simp (lt-leb _ _ c.if-n-le192.false)
+returns c = c.min.ensures ∙ firsts_min c.args.n

@@ -4,5 +4,5 @@ use Rattle.scripts.proofs.open_at.Goals as goal
 pub returns-then-l-level : goal.returns-then-l-level
 returns-then-l-level c = search open_innermost
 
-pub returns : goal.returns
-returns c = search open_outside
+pub returns-else-l-level : goal.returns-else-l-level
+returns-else-l-level c = search open_outside

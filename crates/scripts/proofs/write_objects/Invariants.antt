@@ -1,5 +1,5 @@
 use mathlib.Core.Path.{◌≡◌}
-use Prim.Native.Nat.{◌≤◌, ◌-◌}
+use Prim.Native.Nat.{◌≤◌}
 use lib.ListN.{length}
 use Rattle.octets.specs.Laid.{laid}
 use Rattle.scripts.specs.Writing.{said, bytes_of}
@@ -10,6 +10,3 @@ use Rattle.scripts.proofs.write_objects.Given as goal
 abbrev pub invariant-loop-i : goal.invariant-loop-i
 invariant-loop-i l = (l.i ≤ l.n) × (length l.out ≡ length l.initial.out) × Left l.n l.objects l.source l.i (length l.initial.out) l.place ×
     (laid l.out l.place (bytes_of l.source (from l.n l.objects l.i)) ≡ laid l.initial.out l.at (bytes_of l.source (said l.objects)))
-
-abbrev pub decreases-loop-i : goal.decreases-loop-i
-decreases-loop-i l = l.n - l.i

@@ -4,10 +4,10 @@ use Rattle.octets.specs.Same.{same}
 use Rattle.shapes.specs.Shape.{code_head}
 use Rattle.shapes.proofs.is_code_head.Goals as goal
 
-pub returns-then-a-ne142 : goal.returns-then-a-ne142
+pub returns-then-a-eq142 : goal.returns-then-a-eq142
 unfolding same code_head
-returns-then-a-ne142 c = simp (ne_eqb _ _ c.if-a-ne142.true)
+returns-then-a-eq142 c = simp (eq-eqb _ _ c.if-a-eq142.true, and-true)
 
-pub returns : goal.returns
+pub returns-else-a-eq142 : goal.returns-else-a-eq142
 unfolding same code_head
-returns c = simp (eq-eqb _ _ c.if-a-ne142.false, and-true)
+returns-else-a-eq142 c = simp (ne_eqb _ _ c.if-a-eq142.false)

@@ -6,6 +6,6 @@ pub returns-then-tag-eq135 : goal.returns-then-tag-eq135
 unfolding tag_fits
 returns-then-tag-eq135 c = simp (eq-eqb _ _ c.if-tag-eq135.true)
 
-pub returns : goal.returns
+pub returns-else-tag-eq135 : goal.returns-else-tag-eq135
 unfolding tag_fits
-returns c = simp (ne_eqb _ _ c.if-tag-eq135.false)
+returns-else-tag-eq135 c = simp (ne_eqb _ _ c.if-tag-eq135.false)

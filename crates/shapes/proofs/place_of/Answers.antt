@@ -8,6 +8,6 @@ pub returns-then-n-le-LARGEST_SHORT : goal.returns-then-n-le-LARGEST_SHORT
 unfolding largest_short
 returns-then-n-le-LARGEST_SHORT c = sym (place_short _ (omega arith))
 
-pub returns : goal.returns
+pub returns-else-n-le-LARGEST_SHORT : goal.returns-else-n-le-LARGEST_SHORT
 unfolding largest_short
-returns c = sym (place_long _ (omega arith))
+returns-else-n-le-LARGEST_SHORT c = sym (place_long _ (omega arith))

@@ -5,6 +5,7 @@ use Rattle.shapes.proofs.LengthLaws.{place_small}
 use mathlib.Core.Bool.{not}
 use mathlib.Core.Path.{ap}
 use Rattle.shapes.proofs.shape.Goals as goal
+use Rattle.shapes.proofs.shape.Goals.{then-message-end-via-then-message-end, then-message-end-via-else-message-end+then-not-is_tag, then-message-end-via-else-message-end+else-not-is_tag+then-not-is_code_head}
 
 pub returns-then-length-gt-LARGEST : goal.returns-then-length-gt-LARGEST
 unfolding largest
@@ -17,14 +18,19 @@ pub overflow_add-end-2 : goal.overflow_add-end-2
 overflow_add-end-2 c = record { fits = omega (arith, place_small c.length_of-length.result) }
 
 pub returns-then-message-end : goal.returns-then-message-end
-returns-then-message-end c = tells_shaped _ (shape_long _ _ c.length_of-length.ensures _ c.place_of-place.ensures (λ e. omega arith))
-
-pub returns-then-not-is_tag : goal.returns-then-not-is_tag
-returns-then-not-is_tag c = tells_shaped _ (shape_tag _ _ c.length_of-length.ensures _ c.place_of-place.ensures _ c.is_tag.ensures (ap not c.if-not-is_tag.true))
-
-pub returns-then-not-is_code_head : goal.returns-then-not-is_code_head
-returns-then-not-is_code_head c = tells_shaped _ (shape_head _ _ c.length_of-length.ensures _ c.place_of-place.ensures _ c.is_code_head.ensures (ap not c.if-not-is_code_head.true))
+returns-then-message-end c =
+    let k = shape_long _ _ c.length_of-length.ensures _ c.place_of-place.ensures in
+    elim c.then-message-end.branch [
+      | then-message-end-via-then-message-end w ↦ tells_shaped _ (k (λ e. omega arith))
+      | then-message-end-via-else-message-end+then-not-is_tag w ↦
+          tells_shaped _ (shape_tag _ _ c.length_of-length.ensures _ c.place_of-place.ensures _ w.is_tag.ensures (ap not w.if-not-is_tag.true))
+      | then-message-end-via-else-message-end+else-not-is_tag+then-not-is_code_head w ↦
+          tells_shaped _ (shape_head _ _ c.length_of-length.ensures _ c.place_of-place.ensures _ w.is_code_head.ensures (ap not w.if-not-is_code_head.true))
+    ]
 
 pub returns : goal.returns
 unfolding largest
-returns c = tells_shaped _ (shape_yes _ _ c.length_of-length.ensures _ c.place_of-place.ensures c.if-length-gt-LARGEST.false c.if-message-end.false _ c.is_tag.ensures (ap not c.if-not-is_tag.false) _ c.is_code_head.ensures (ap not c.if-not-is_code_head.false))
+returns c =
+    tells_shaped _
+    (shape_yes _ _ c.length_of-length.ensures _ c.place_of-place.ensures c.if-length-gt-LARGEST.false c.if-message-end.false _ c.is_tag.ensures (ap not c.if-not-is_tag.false) _
+    c.is_code_head.ensures (ap not c.if-not-is_code_head.false))

@@ -4,18 +4,15 @@ use borrow.Author.Rules.{rules}
 use Rattle.stored.proofs.table_out.Goals as goal
 
 pub loop-i-init : goal.loop-i-init
-loop-i-init c = (omega arith, c.requires, c.requires, search rules, out_start _ _)
+loop-i-init c = (c.requires, search rules, out_start _ _)
 
 pub loop-i-preserved : goal.loop-i-preserved
-loop-i-preserved c = let l = c.loop-i in
-    let z = c.lay.ensures in (
-      omega arith,
-      l.invariant.1,
-      search rules,
-      l.invariant.3,
-      out_turn _ _ _ _ l.i _ _ l.invariant.1 l.invariant.3 (omega arith) l.invariant.4 c.entry_out-w.ensures (search rules) z,
-    )
+loop-i-preserved c = let l = c.loop-i in (
+  l.invariant.0,
+  l.invariant.1,
+  out_turn _ _ _ _ l.i _ _ l.invariant.0 l.invariant.1 (omega arith) l.invariant.2 c.entry_out.ensures (search rules) c.copy_from_slice.ensures.after,
+)
 
 pub returns : goal.returns
 returns c = let l = c.loop-i in
-    out_end _ _ _ l.i l.invariant.1 l.invariant.3 (omega arith) l.invariant.4
+    out_end _ _ _ l.i l.invariant.0 l.invariant.1 (omega arith) l.invariant.2

@@ -1,15 +1,31 @@
-use Rattle.stored.proofs.LentLaws.{fits_wrap, wrap_unfit, wrap_as}
-use mathlib.Core.Bool.{not}
-use mathlib.Core.Path.{ap}
+use Rattle.std.proofs.lemmas.Result.{err_from_is_err_and}
+use Rattle.stored.proofs.LentLaws.{short, whole, wrap_short_smi, wrap_short_smc, wrap_misfit, wrap_whole, wrap_unfit, wrap_as}
+use mathlib.Core.Logic.{inl, inr}
+use Rattle.stored.proofs.wrap.Goals.{then-table-ne-TABLE-via-then-table-ne-TABLE, then-table-ne-TABLE-via-else-table-ne-TABLE+then-digits-gt1}
 use Rattle.stored.proofs.wrap.Goals as goal
 
-pub returns-then-not-wrap_fits : goal.returns-then-not-wrap_fits
-returns-then-not-wrap_fits c = wrap_unfit _ _ _ _ _ _ _ _ _ _ _ _ c.wrap_fits.ensures (ap not c.if-not-wrap_fits.true)
+pub returns-in_err-smi : goal.returns-in_err-smi
+returns-in_err-smi c =
+    let p = err_from_is_err_and c.from_residual.result c.from_residual.ensures.1 in
+    let s = short 32 c.args.smi.now _ _ c.exactly.ensures c.in_err-smi.was in
+    rw (p.1, p.2, s.1) (wrap_unfit _ _ _ _ _ _ _ _ _ _ _ (wrap_short_smi _ _ _ _ s.0))
 
-pub desk_of-d-requires : goal.desk_of-d-requires
-desk_of-d-requires c = (fits_wrap _ _ _ _ _ c.wrap_fits.ensures (ap not c.if-not-wrap_fits.false)).0
+pub returns-in_err-smc : goal.returns-in_err-smc
+returns-in_err-smc c =
+    let p = err_from_is_err_and c.from_residual-in_err-smc.result c.from_residual-in_err-smc.ensures.1 in
+    let s = short 32 c.args.smc.now _ _ c.exactly-2.ensures c.in_err-smc.was in
+    rw (p.1, p.2, s.1) (wrap_unfit _ _ _ _ _ _ _ _ _ _ _ (wrap_short_smc _ _ _ _ s.0))
+
+pub returns-then-table-ne-TABLE : goal.returns-then-table-ne-TABLE
+returns-then-table-ne-TABLE c =
+    wrap_unfit _ _ _ _ _ _ _ _ _ _ _ (wrap_misfit _ _ _ _
+    (elim c.then-table-ne-TABLE.branch [
+      | then-table-ne-TABLE-via-then-table-ne-TABLE w ↦ inl w.if-table-ne-TABLE.true
+      | then-table-ne-TABLE-via-else-table-ne-TABLE+then-digits-gt1 w ↦ inr w.if-digits-gt1.true
+    ]))
 
 pub returns : goal.returns
-returns c = let f = fits_wrap _ _ _ _ _ c.wrap_fits.ensures (ap not c.if-not-wrap_fits.false) in
-    wrap_as _ _ _ _ _ _ _ _ _ _ _ _ c.wrap_fits.ensures (ap not c.if-not-wrap_fits.false) _ _ _ _ _ f.1 f.2 c.key_of-a.ensures c.key_of-b.ensures
-    c.desk_of-d.ensures c.wrap.ensures
+returns c =
+    let s = whole 32 c.args.smi.now _ _ c.exactly.ensures c.in_ok-smi.was in
+    let t = whole 32 c.args.smc.now _ _ c.exactly-2.ensures c.in_ok-smc.was in
+    wrap_as _ _ _ _ _ _ _ _ _ _ _ (wrap_whole _ _ _ _ c.if-table-ne-TABLE.false s.0 t.0 c.if-digits-gt1.false) _ _ _ _ _ s.1 t.1 c.desk_of-lent.ensures c.wrap.ensures

@@ -1,17 +1,12 @@
-use mathlib.Core.Path.{refl}
-use native.Mathlib.Omega.{arith}
-use borrow.Author.Rules.{rules}
-use Rattle.table.proofs.Turns.{held_yes, held_on, held_end}
+use mathlib.Core.Path.{◌∙◌}
+use Rattle.std.proofs.Common.{rules, tests}
+use Rattle.std.proofs.lemmas.Iterator.{YieldsList-from_slice}
+use Rattle.std.proofs.lemmas.Iterator.Search.{any_from_yields_List}
+use Rattle.table.specs.Table.{names}
+use Rattle.table.proofs.Turns.{held_any}
 use Rattle.table.proofs.is_held.Goals as goal
 
-pub loop-i-init : goal.loop-i-init
-loop-i-init c = (omega arith, search rules, refl)
-
-pub returns-then-is_for : goal.returns-then-is_for
-returns-then-is_for c = search (held_yes, rules)
-
-pub loop-i-preserved : goal.loop-i-preserved
-loop-i-preserved c = (omega arith, search rules, search (held_on, rules))
-
 pub returns : goal.returns
-returns c = let l = c.loop-i in held_end _ _ l.i (omega arith) l.invariant.2
+returns c =
+    any_from_yields_List (names c.args.c) _ _ c.any.result c.any.ensures.ran (YieldsList-from_slice c.args.places c.iter.ensures.rest) (λ x b q k. search (rules, tests))
+    ∙ held_any c.args.c c.args.places

@@ -1,17 +1,21 @@
-use mathlib.Core.Path.{refl}
-use native.Mathlib.Omega.{arith}
-use borrow.Author.Rules.{rules}
-use Rattle.table.proofs.Turns.{reading_yes, reading_on, reading_end}
+use mathlib.Core.Path.{sym, ap, ◌∙◌}
+use Rattle.std.proofs.Common.{rules, tests}
+use Rattle.std.specs.Prelude.{Ok}
+use Rattle.std.specs.Option.{option_map}
+use Rattle.std.proofs.lemmas.Iterator.{YieldsList-from_slice}
+use Rattle.std.proofs.lemmas.Iterator.Search.{find_from_yields_List}
+use Rattle.table.specs.Table.{names}
+use Rattle.table.proofs.Turns.{reading_first, reading_none}
 use Rattle.table.proofs.last_of.Goals as goal
 
-pub loop-i-init : goal.loop-i-init
-loop-i-init c = (omega arith, search rules, refl)
+pub returns-in-Some : goal.returns-in-Some
+returns-in-Some c =
+    ap Ok c.counter_of.ensures
+    ∙ reading_first _ _ _
+    (sym (find_from_yields_List (names c.args.c) _ _ c.find.result c.find.ensures.ran (YieldsList-from_slice c.args.places c.iter.ensures.rest) (λ x b q k. search (rules, tests)))
+    ∙ ap (option_map _) c.in-Some.is)
 
-pub returns-then-is_for : goal.returns-then-is_for
-returns-then-is_for c = search (reading_yes, rules)
-
-pub loop-i-preserved : goal.loop-i-preserved
-loop-i-preserved c = (omega arith, search rules, search (reading_on, rules))
-
-pub returns : goal.returns
-returns c = let l = c.loop-i in reading_end _ _ l.i (omega arith) l.invariant.2
+pub returns-in-None : goal.returns-in-None
+returns-in-None c = reading_none _ _
+    (sym (find_from_yields_List (names c.args.c) _ _ c.find.result c.find.ensures.ran (YieldsList-from_slice c.args.places c.iter.ensures.rest) (λ x b q k. search (rules, tests)))
+    ∙ ap (option_map _) c.in-None.is)

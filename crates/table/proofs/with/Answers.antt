@@ -4,5 +4,5 @@ use Rattle.table.proofs.with.Goals as goal
 pub returns-then-is_for : goal.returns-then-is_for
 returns-then-is_for c = search kept_yes
 
-pub returns : goal.returns
-returns c = search kept_no
+pub returns-else-is_for : goal.returns-else-is_for
+returns-else-is_for c = search kept_no

@@ -4,5 +4,5 @@ use Rattle.table.proofs.without.Goals as goal
 pub returns-then-is_for : goal.returns-then-is_for
 returns-then-is_for c = search cleared_yes
 
-pub returns : goal.returns
-returns c = search cleared_no
+pub returns-else-is_for : goal.returns-else-is_for
+returns-else-is_for c = search cleared_no

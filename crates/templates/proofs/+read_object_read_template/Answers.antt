@@ -5,8 +5,8 @@ use Rattle.templates.proofs.+read_object_read_template.Goals as goal
 pub read_object-is_good-fits-requires : goal.read_object-is_good-fits-requires
 read_object-is_good-fits-requires t c = search (head_small_enough, rules)
 
-pub read_object-returns-then-code-ne0 : goal.read_object-returns-then-code-ne0
-read_object-returns-then-code-ne0 t c = search (object_stopped, rules)
+pub read_object-returns-in-Err : goal.read_object-returns-in-Err
+read_object-returns-in-Err t c = search (object_stopped, rules)
 
 pub read_object-overflow_add-data : goal.read_object-overflow_add-data
 read_object-overflow_add-data t c = search (object_data, rules)
@@ -35,8 +35,8 @@ read_object-returns t c = search (object_inner, rules)
 pub read_template-returns-then-xs-eq0 : goal.read_template-returns-then-xs-eq0
 read_template-returns-then-xs-eq0 t c = search (read_none, rules)
 
-pub read_template-returns-then-after-ne0 : goal.read_template-returns-then-after-ne0
-read_template-returns-then-after-ne0 t c = search (template_stopped, rules)
+pub read_template-returns-then-is_some : goal.read_template-returns-then-is_some
+read_template-returns-then-is_some t c = search (template_stopped, rules)
 
 pub read_template-overflow_add-size : goal.read_template-overflow_add-size
 read_template-overflow_add-size t c = search (template_size, rules)

@@ -6,6 +6,6 @@ pub returns-then-tag-eq-IDENTIFIER : goal.returns-then-tag-eq-IDENTIFIER
 unfolding ahead
 returns-then-tag-eq-IDENTIFIER c = simp (eq-eqb _ _ c.if-tag-eq-IDENTIFIER.true)
 
-pub returns : goal.returns
+pub returns-else-tag-eq-IDENTIFIER : goal.returns-else-tag-eq-IDENTIFIER
 unfolding ahead
-returns c = simp (ne_eqb _ _ c.if-tag-eq-IDENTIFIER.false)
+returns-else-tag-eq-IDENTIFIER c = simp (ne_eqb _ _ c.if-tag-eq-IDENTIFIER.false)

@@ -13,12 +13,12 @@ slice_bounds-feed_kept-end-4 c = sym (length-take-le _ _ (kept_within c.keep_use
 pub slice_bounds-feed_kept-end-6 : goal.slice_bounds-feed_kept-end-6
 slice_bounds-feed_kept-end-6 c = sym (length-take-le _ _ (kept_within c.keep_used-used.ensures.of_smc))
 
-pub feed_kept-f-requires : goal.feed_kept-f-requires
-feed_kept-f-requires c = fit_all c.keep_used-used.ensures
+pub feed_kept-fed-requires : goal.feed_kept-fed-requires
+feed_kept-fed-requires c = fit_all c.keep_used-used.ensures
 
 pub returns : goal.returns
 returns c = record {
-  feeds = c.feed_kept-f.ensures;
-  long = search (rules, c.feed_kept-f.type_inv);
-  ready = left_ready _ _ _ _ _ _ _ _ c.feed_kept-f.ensures c.keep_used-used.ensures c.left-rest.ensures;
+  feeds = c.feed_kept-fed.ensures;
+  long = search (rules, c.feed_kept-fed.type_inv);
+  ready = left_ready _ _ _ _ _ _ _ _ c.feed_kept-fed.ensures c.keep_used-used.ensures c.left-have.ensures;
 }

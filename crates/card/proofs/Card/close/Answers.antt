@@ -7,8 +7,8 @@ returns-then-not-is_sound c = search unsound
 pub returns-then-not-is_open : goal.returns-then-not-is_open
 returns-then-not-is_open c = search close_idle
 
-pub returns-then-t : goal.returns-then-t
-returns-then-t c = search close_spoilt
+pub returns-then-self : goal.returns-then-self
+returns-then-self c = search close_spoilt
 
 pub returns : goal.returns
 returns c = search close_done

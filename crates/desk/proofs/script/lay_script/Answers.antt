@@ -7,5 +7,5 @@ store_header-requires c = let a = c.args in header_fits a.c _ a.data.now a.buffe
 
 pub returns : goal.returns
 returns c = let a = c.args in
-    script_written a.c _ a.data.now a.buffer.now a.place c.requires.1 (search rules) c.requires.0 _ c.store_header.ensures _ c.header-h.ensures _ c.tag-tag.ensures _ _
+    script_written a.c _ a.data.now a.buffer.now a.place c.requires.1 (search rules) c.requires.0 _ c.store_header.ensures _ c.header.ensures _ c.tag.ensures _ _
     c.wrap.ensures

@@ -6,6 +6,6 @@ pub returns-then-tag-eq-OUTER : goal.returns-then-tag-eq-OUTER
 unfolding within
 returns-then-tag-eq-OUTER c = simp (eq-eqb _ _ c.if-tag-eq-OUTER.true)
 
-pub returns : goal.returns
+pub returns-else-tag-eq-OUTER : goal.returns-else-tag-eq-OUTER
 unfolding within
-returns c = simp (ne_eqb _ _ c.if-tag-eq-OUTER.false)
+returns-else-tag-eq-OUTER c = simp (ne_eqb _ _ c.if-tag-eq-OUTER.false)

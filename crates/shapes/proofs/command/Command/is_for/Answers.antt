@@ -1,14 +1,20 @@
+use mathlib.Core.Path.{sym, ◌∙◌}
+use mathlib.Core.Bool.{true≢false}
 use Rattle.shapes.proofs.CommandLaws.{not_header, not_tag, its_header}
-use mathlib.Core.Path.{◌∙◌}
-use mathlib.Core.Bool.{not}
-use mathlib.Core.Path.{ap}
 use Rattle.shapes.proofs.command.Command.is_for.Goals as goal
-
-pub returns-then-not-same : goal.returns-then-not-same
-returns-then-not-same c = not_header _ _ _ _ _ c.header-own.ensures _ c.same.ensures (ap not c.if-not-same.true)
+use Rattle.shapes.proofs.command.Command.is_for.Goals.{then-same, else-same}
 
 pub returns-then-tag : goal.returns-then-tag
-returns-then-tag c = not_tag _ _ _ _ _ c.tag.ensures c.if-tag.true
+returns-then-tag c =
+    elim c.if-same.branch [
+      | then-same w ↦
+          its_header _ _ _ _ _ c.header.ensures _ c.same.ensures w.if-same.true _ w.tag.ensures _ w.value-is c.if-tag.true _ c.length.ensures
+      | else-same w ↦ absurd (true≢false (sym c.if-tag.true ∙ w.value-is ∙ w.if-same.false))
+    ]
 
-pub returns : goal.returns
-returns c = its_header _ _ _ _ _ c.header-own.ensures _ c.same.ensures (ap not c.if-not-same.false) (c.if-tag.false ∙ c.tag.ensures) _ c.length.ensures
+pub returns-else-tag : goal.returns-else-tag
+returns-else-tag c =
+    elim c.if-same.branch [
+      | then-same w ↦ not_tag _ _ _ _ _ c.header.ensures _ c.same.ensures w.if-same.true _ w.tag.ensures _ w.value-is c.if-tag.false
+      | else-same w ↦ not_header _ _ _ _ _ c.header.ensures _ c.same.ensures _ w.value-is c.if-tag.false
+    ]

@@ -1,14 +1,19 @@
-use Rattle.shapes.proofs.CommandLaws.{lists, sets_pin, sets_mark, clears_mark, none_listed}
+use mathlib.Core.Path.{ap, ◌∙◌}
+use Rattle.std.proofs.Common.{Option, rules, tests}
+use Rattle.std.specs.Option.{ok_or}
+use Rattle.std.proofs.lemmas.Iterator.{YieldsList-from_slice}
+use Rattle.std.proofs.lemmas.Iterator.Search.{find_from_yields_List}
+use Rattle.answers.specs.declared.Refusal.TheVariants.{NotListed}
+use Rattle.shapes.specs.declared.command.Command.{Command}
+use Rattle.shapes.specs.Command.{is_for, listed}
+use Rattle.shapes.proofs.CommandLaws.{lists, found_first}
 use Rattle.shapes.proofs.command.Command.listed.Goals as goal
 
-pub returns-then-is_for : goal.returns-then-is_for
-returns-then-is_for c = lists (sets_pin _ _ _ _ c.is_for.ensures c.if-is_for.true)
-
-pub returns-then-is_for-2 : goal.returns-then-is_for-2
-returns-then-is_for-2 c = lists (sets_mark _ _ _ _ c.is_for.ensures c.if-is_for.false _ c.is_for-2.ensures c.if-is_for-2.true)
-
-pub returns-then-is_for-3 : goal.returns-then-is_for-3
-returns-then-is_for-3 c = lists (clears_mark _ _ _ _ c.is_for.ensures c.if-is_for.false _ c.is_for-2.ensures c.if-is_for-2.false _ c.is_for-3.ensures c.if-is_for-3.true)
-
 pub returns : goal.returns
-returns c = lists (none_listed _ _ _ _ c.is_for.ensures c.if-is_for.false _ c.is_for-2.ensures c.if-is_for-2.false _ c.is_for-3.ensures c.if-is_for-3.false)
+unfolding listed
+returns c = let x = c.args in
+    let f =
+    find_from_yields_List (λ (k : Command). is_for k x.header.now x.tag x.length) _ _ c.find.result c.find.ensures.ran (YieldsList-from_slice listed c.iter.ensures.rest)
+    (λ y b q k. search (rules, tests))
+    in
+    lists (c.ok_or.ensures.value ∙ ap (λ (r : Option Command). ok_or r NotListed) (c.copied.ensures ∙ f) ∙ found_first listed x.header.now x.tag x.length)

@@ -1,8 +1,8 @@
 -- The rules of before, in computed cases of 01: what a definition under them says does not move with today's. Assumes nothing.
 use Rattle.std.specs.Prelude.{ℕ, ◌≡◌, List, [], ◌∷◌, replicate, Ok, Err}
-use Rattle.answers.specs.declared.Refusal.TheVariants.{ShapeWrong}
+use Rattle.answers.specs.declared.Refusal.TheVariants.{Input, ShapeWrong}
 use Rattle.shapes.specs.Answers.{found, shaped_under}
-use Rattle.message.specs.Answers.{open_number_under, wrap_number_under}
+use Rattle.message.specs.Answers.{open_number_under, opened_under, wrap_number_under}
 use Rattle.lines.specs.declared.Held.{Held}
 use Rattle.lines.specs.Answers.{numbered}
 use Rattle.frames.specs.Frames.{answer_to_under}
@@ -18,6 +18,7 @@ pub record CasesBefore : Type 0 where
   pub byte_81 : (a b c d : ℕ) → shaped_under short_scripts (message_of (0x81 ∷ 0x80 ∷ []) 128 a b c d) ≡ Err ShapeWrong
   -- opening: 1 ahead of 4; wrapping: 1 ahead of 3, and "Its size is L + 8"
   pub opens_1_4 : open_number_under short_scripts [] [] [] ≡ 1
+  pub refused_1_4 : opened_under short_scripts [] [] [] ≡ Err Input
   pub wraps_1_3 : wrap_number_under short_scripts [] (replicate 4 0) 0x81 0 7 0 ≡ 1
   pub wraps_128 : wrap_number_under short_scripts (replicate 32 0) (replicate 4 0) 0x81 128 300 0 ≡ 1
   pub wraps_3 : wrap_number_under short_scripts (replicate 32 0) (replicate 4 0) 0x81 127 134 0 ≡ 3

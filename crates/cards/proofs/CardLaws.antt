@@ -84,7 +84,8 @@ unfit_of c e = go (card_fits (pan_of c) (sequence_of c)) e
     go true e = sym e
     go false e = refl
 
-pub seed_is : (c : List ℕ) → card_fits (pan_of c) (sequence_of c) ≡ true → seed_of c ≡ Ok (Y (pan_of c) (sequence_of c))
+-- the seed of a card that fits; zeros stand for another's
+pub seed_is : (c : List ℕ) → card_fits (pan_of c) (sequence_of c) ≡ true → result_unwrap_or (seed_of c) (replicate 8 0) ≡ Y (pan_of c) (sequence_of c)
 unfolding seed_of seed_answer
 seed_is c f = simp f
 
@@ -109,17 +110,8 @@ module _ (cs : List ℕ) (n i : ℕ) (h : i < n) where
       ap (λ (t : Bool). t && all_fit (n - (i + 1)) (drop 21 (drop (21 * i) cs))) (sym (unfit_of (take 21 (drop (21 * i) cs)) e))
       ∙ ap (λ (k : ℕ). all_fit k (drop (21 * i) cs)) (sym left)
 
-  -- the next card fits, and those after it
-  pub next_fits : all_fit (n - i) (drop (21 * i) cs) ≡ true
-      → (card_fits (pan_of (take 21 (drop (21 * i) cs))) (sequence_of (take 21 (drop (21 * i) cs))) ≡ true) × (all_fit (n - (i + 1)) (drop (21 * (i + 1)) cs) ≡ true)
-  unfolding all_fit
-  next_fits e =
-      let c : List ℕ = take 21 (drop (21 * i) cs) in
-      let f = (and-eq-true_iff (card_fits (pan_of c) (sequence_of c)) (all_fit (n - (i + 1)) (drop 21 (drop (21 * i) cs)))).0 (ap (λ (k : ℕ). all_fit k (drop (21 * i) cs)) (sym left) ∙ e) in
-      (f.0, ap (all_fit (n - (i + 1))) (sym next) ∙ f.1)
-
   -- a key written
-  pub key_turn : (k out key : List ℕ) → length out ≡ 32 * n → length key ≡ 32 → key ≡ derived_kept k card_label (Y (pan_of (take 21 (drop (21 * i) cs))) (sequence_of (take 21 (drop (21 * i) cs))))
+  pub key_turn : (k out key : List ℕ) → length out ≡ 32 * n → length key ≡ 32 → key ≡ derived_kept k card_label (result_unwrap_or (seed_of (take 21 (drop (21 * i) cs))) (replicate 8 0))
       → take (32 * (i + 1)) (paste out (32 * i) key 32) ++ keys_by k (n - (i + 1)) (drop (21 * (i + 1)) cs) ≡ take (32 * i) out ++ keys_by k (n - i) (drop (21 * i) cs)
   unfolding keys_by
   key_turn k out key m l e =
@@ -154,9 +146,10 @@ key_is cs ws seed r l h n d e f =
 -- the keys under the kept key are the cards' keys
 module _ (key : List ℕ) (h : length key ≡ 32) where
   one : (c : List ℕ) → card_fits (pan_of c) (sequence_of c) ≡ true
-      → derived_kept (kept_words key) card_label (Y (pan_of c) (sequence_of c)) ≡ result_unwrap_or (card_key key (pan_of c) (sequence_of c)) (replicate 32 0)
+      → derived_kept (kept_words key) card_label (result_unwrap_or (seed_of c) (replicate 8 0)) ≡ result_unwrap_or (card_key key (pan_of c) (sequence_of c)) (replicate 32 0)
   one c f =
-      derived_kept_lem key card_label (Y (pan_of c) (sequence_of c)) h
+      ap (derived_kept (kept_words key) card_label) (seed_is c f)
+      ∙ derived_kept_lem key card_label (Y (pan_of c) (sequence_of c)) h
       ∙ sym (ap (λ (r : Result (List ℕ) Refusal). result_unwrap_or r (replicate 32 0)) (card_is key h (pan_of c) (sequence_of c) f))
 
   pub keys_kept : (n : ℕ) (cs : List ℕ) → all_fit n cs ≡ true → keys_by (kept_words key) n cs ≡ cards_keys key n cs

@@ -1,7 +1,7 @@
 // A day's cards: the master keys of many cards under one issuer's key, which is kept for all of them (R 1323565.1.010, clause 4.1).
 #![tactic(auto)]
 
-ghost use Rattle.std.specs.Prelude.{◌≡◌, true, ◌+◌, ◌*◌, ◌≤◌, length, take, drop};
+ghost use Rattle.std.specs.Prelude.{◌≡◌, ◌+◌, ◌*◌, ◌≤◌, length, take, drop};
 ghost use Rattle.answers.specs.Answers.{number_told};
 ghost use Rattle.cards.specs.Cards.{all_fit, cards_number, cards_after};
 ghost use Rattle.cards.specs.Inner.{seed_of, keys_by};
@@ -33,15 +33,14 @@ fn all_fit(cards: &[u8], n: usize) -> bool
     true
 }
 
-// The keys of the first n cards, which have the form, under the words of a kept key. The constants are made once for them.
+// The keys of the first n cards under the words of a kept key; for a card that has not the form, of a seed of zeros. The constants are made once for them.
 fn put_keys(kept: &[u64], cards: &[u8], n: usize, out: &mut [u8])
-    requires { (length kept.now ≡ 256) × (21 * n ≤ length cards.now) × (length out.old ≡ 32 * n)
-        × (all_fit n cards.now ≡ true) }
+    requires { (length kept.now ≡ 256) × (21 * n ≤ length cards.now) × (length out.old ≡ 32 * n) }
     ensures { out.new ≡ keys_by kept.now n cards.now }
 {
     let cs = rounds::iteration_constants();
     for i in 0..n {
-        let seed = seed_at(cards, 21 * i).unwrap();
+        let seed = seed_at(cards, 21 * i).unwrap_or([0; 8]);
         let key = derive::derive_kept_over(&cs, kept, derive::card_label(), seed).unwrap();
         out[32 * i..32 * i + 32].copy_from_slice(&key);
     }

@@ -137,20 +137,27 @@ pub fn code(key: &[u8], string: &[u8]) -> Result<[u8; 4], Refusal>
     code_with(expand(exactly(key)?), string)
 }
 
-// A byte more, after bytes that the buffer holds with zeros after them. A block that it fills is taken.
-fn push(mut s: Coding, b: u8) -> Coding
+// A byte more, after bytes that the buffer holds with zeros after them. A block that it fills is taken. The buffer is a local: written in the state, at a
+// place that is not known before, it would have LLVM copy the whole state for each byte.
+fn push(s: Coding, b: u8) -> Coding
     requires { (s.fill < 8) × (s.buffer ≡ filled 8 (held s)) }
     ensures { result ≡ poured code_way s (b ∷ []) s.total }
 {
-    s.buffer[s.fill] = b;
+    let mut buffer = s.buffer;
+    buffer[s.fill] = b;
     if s.fill < 7 {
-        s.fill += 1;
-        return s;
+        return Coding {
+            buffer,
+            fill: s.fill + 1,
+            ..s
+        };
     }
-    s.halves = absorb(s.subkeys, s.halves, halves_of(&s.buffer));
-    s.buffer = [0; 8];
-    s.fill = 0;
-    s
+    Coding {
+        halves: absorb(s.subkeys, s.halves, halves_of(&buffer)),
+        buffer: [0; 8],
+        fill: 0,
+        ..s
+    }
 }
 
 // The bytes of m more, one by one.
@@ -169,13 +176,14 @@ fn push_all(s: Coding, m: &[u8]) -> Coding
 fn pour(s: Coding, m: &[u8]) -> Coding
     ensures { result ≡ poured code_way s m.now s.total }
 {
+    let buffer = s.buffer;
     let at = s.fill % 8;
     let empty = Coding {
         buffer: [0; 8],
         fill: 0,
         ..s
     };
-    let begun = push_all(empty, &s.buffer[..at]);
+    let begun = push_all(empty, &buffer[..at]);
     let need = (8 - at) % 8;
     if m.len() < need {
         return push_all(begun, m);

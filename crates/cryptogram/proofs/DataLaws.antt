@@ -65,7 +65,7 @@ string_made kind atc d e c ec s es m em =
     ∙ ap (λ (t : List ℕ). set (set (set d 31 (get_or t 0 0)) 32 (get_or t 1 0)) 36 (marked kind (get_or d 36 0)) ++ p) ec
 
 -- the string under an ARPC, element by element, and its parts laid in one after the other
-arpc_made : (c u : List ℕ) → length c ≡ 8 → length u ≡ 4
+pub arpc_made : (c u : List ℕ) → length c ≡ 8 → length u ≡ 4
     → (get_or c 0 0 ∷ get_or c 1 0 ∷ get_or c 2 0 ∷ get_or c 3 0 ∷ get_or c 4 0 ∷ get_or c 5 0 ∷ get_or c 6 0 ∷ get_or c 7 0 ∷ [])
     ++ (get_or u 0 0 ∷ get_or u 1 0 ∷ get_or u 2 0 ∷ get_or u 3 0 ∷ []) ++ replicate 4 0 ++ 0x80 ∷ replicate 55 0 ≡ arpc_string c u
 unfolding arpc_string

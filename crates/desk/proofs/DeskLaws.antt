@@ -25,6 +25,7 @@ use Rattle.cryptogram.specs.Answers.{cryptogram_answer, arpc_answer}
 use Rattle.cryptogram.proofs.AnswerLaws as cryptograms
 use Rattle.table.specs.declared.CardId.{CardId}
 use Rattle.table.specs.declared.Entry.{Entry}
+use Rattle.table.specs.declared.Last.{Last}
 use Rattle.table.specs.Table.{held}
 use Rattle.table.specs.Calls.{adding, forgetting, keeping, reading}
 use Rattle.table.specs.Acts.{last_of}
@@ -115,18 +116,28 @@ unfolding counter_in
 counter_made m r e = e
 
 -- above the last
-module _ (t : List Entry) (c : CardId) (n : ℕ) (l : Result (Option ℕ) Refusal) (e : l ≡ reading c t) where
-  pub above_some : (x : ℕ) → l ≡ Ok (Some x) → ltb x n ≡ above_last t c n
+module _ (t : List Entry) (c : CardId) (n : ℕ) (r : Result Last Refusal) (e : r ≡ reading c t) where
+  above_told : (l : Last) → r ≡ Ok l → above (cond l.known (Some l.last) None) n ≡ above_last t c n
   unfolding above_last
-  above_some x h = ap (λ (r : Result (Option ℕ) Refusal). above (last_of r) n) (sym h ∙ e)
+  above_told l h = ap (λ (x : Result Last Refusal). above (last_of x) n) (sym h ∙ e)
 
-  pub above_none : l ≡ Ok None → true ≡ above_last t c n
-  unfolding above_last
-  above_none h = ap (λ (r : Result (Option ℕ) Refusal). above (last_of r) n) (sym h ∙ e)
+  pub above_none : (l : Last) → r ≡ Ok l → not l.known ≡ true → true ≡ above_last t c n
+  above_none l h k = go l.known k ∙ above_told l h
+    where
+      go : (b : Bool) → not b ≡ true → true ≡ above (cond b (Some l.last) None) n
+      go true k = absurd (cc)
+      go false k = refl
 
-  pub above_err : (q : Refusal) → l ≡ Err q → true ≡ above_last t c n
+  pub above_some : (l : Last) → r ≡ Ok l → not l.known ≡ false → ltb l.last n ≡ above_last t c n
+  above_some l h k = go l.known k ∙ above_told l h
+    where
+      go : (b : Bool) → not b ≡ false → ltb l.last n ≡ above (cond b (Some l.last) None) n
+      go true k = refl
+      go false k = absurd (cc)
+
+  pub above_err : (q : Refusal) → r ≡ Err q → true ≡ above_last t c n
   unfolding above_last
-  above_err q h = ap (λ (r : Result (Option ℕ) Refusal). above (last_of r) n) (sym h ∙ e)
+  above_err q h = ap (λ (x : Result Last Refusal). above (last_of x) n) (sym h ∙ e)
 
 -- a right code, a held card
 module _ (d : Desk) (c : CardId) (key : List ℕ) (n : ℕ) (arqc csu : List ℕ) (b : Bool) (e : b ≡ above_last d.places c n) where

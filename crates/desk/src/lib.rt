@@ -107,8 +107,8 @@ fn above_last(places: [Entry; 64], c: CardId, counter: u16) -> bool
     ensures { result ≡ above_last places c counter }
 {
     match table::last_of(places, c) {
-        Ok(Some(last)) => last < counter,
-        _ => true,
+        Ok(l) => !l.known || l.last < counter,
+        Err(_) => true,
     }
 }
 

@@ -10,6 +10,7 @@ use Rattle.answers.specs.declared.Refusal.{Refusal}
 use Rattle.answers.specs.Answers.{exactly}
 use Rattle.answers.specs.declared.Refusal.TheVariants.{Input, CardNumber}
 use Rattle.std.specs.Prelude.{Result, Ok, Err}
+use Rattle.std.specs.Result.{result_unwrap_or}
 use Rattle.octets.specs.Lengths.{key_fits}
 use Rattle.octets.specs.Numbers.{be_octets, le_octets}
 use Rattle.octets.proofs.NumberLaws.{length-be_octets}
@@ -119,6 +120,15 @@ module _ (key : List ℕ) (atc n : ℕ) where
             → Err q ≡ cond t (Ok (idn key atc n)) (Err Input)
         go true e = cc
         go false e = e
+
+    -- under a key of 32 octets the enciphered block comes with no refusal
+    pub idn_yes : length key ≡ 32 → (r : Result (List ℕ) Refusal) → r ≡ enciphered key (idn_block atc) → (x : List ℕ)
+        → x ≡ take n (result_unwrap_or r (replicate 8 0)) ++ replicate (8 - n) 0 → Ok x ≡ idn_answer key atc n
+    unfolding key_fits
+    idn_yes h r e x w =
+        let f : r ≡ Ok (encipher key (idn_block atc)) =
+        e ∙ enciphered_block ∙ ap (λ (t : Bool). cond t (Ok (encipher key (idn_block atc))) (Err Input)) (eq-eqb _ _ h) in
+        idn_ok (encipher key (idn_block atc)) x (sym f ∙ e) (w ∙ ap (λ (s : Result (List ℕ) Refusal). take n (result_unwrap_or s (replicate 8 0)) ++ replicate (8 - n) 0) f)
 
 -- the keys themselves, where the lengths and the card fit
 pub length_seed : (atc : ℕ) → length (session_seed atc) ≡ 8

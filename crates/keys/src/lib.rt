@@ -14,7 +14,7 @@ use answers::Refusal;
 pub fn card_fits(pan: &[u8], sequence: u8) -> bool
     ensures { result ≡ card_fits pan.now sequence }
 {
-    12 <= pan.len() && pan.len() <= 19 && octets::digits(pan, pan.len(), 0) && sequence <= 99
+    12 <= pan.len() && pan.len() <= 19 && sequence <= 99 && octets::digits(pan, pan.len(), 0)
 }
 
 // The last sixteen digits of X, with zeros before it where it is shorter.

@@ -13,21 +13,27 @@ use Rattle.std.specs.Prelude.{Result, Ok, Err}
 use Rattle.answers.specs.declared.Refusal.{Refusal}
 use Rattle.answers.specs.declared.Refusal.TheVariants.{Input, ShapeWrong, CodeDiffers}
 use Rattle.shapes.specs.declared.Found.{Found}
-use Rattle.shapes.specs.Shape.{length_of, place_of, tag_of, body_size_under, body_of_under, code_in_under, shape}
-use Rattle.shapes.specs.Answers.{found, found_in, opened_number, opened_values, Tells}
+use Rattle.shapes.specs.Rules.{Rules, present}
+use Rattle.shapes.specs.Shape.{length_of, place_of, tag_of, body_size_under, body_of_under, code_in_under, shape, shape_under}
+use Rattle.shapes.specs.Answers.{found, found_in, found_in_under, opened_number, opened_values, Tells}
 use Rattle.shapes.proofs.AnswerLaws.{tells, Told}
 use Rattle.message.specs.Code.{code_for, given, code_fits, code_fits_under}
 use Rattle.message.specs.Answers.{open_number, open_number_under, opened, opened_under}
 
-pub number_opened : (key header m : List ℕ) → opened_number (opened key header m) ≡ open_number key header m
+-- under any rules the number told is that of the tests in their order
+pub number_opened_under : (k : Rules) (key header m : List ℕ) → opened_number (opened_under k key header m) ≡ open_number_under k key header m
 unfolding opened_under open_number_under
-number_opened key header m = go (given key header) (shape m) (code_fits key header m)
+number_opened_under k key header m = go (given key header) (shape_under k m) (code_fits_under k key header m)
   where
-    go : (a b c : Bool) → opened_number (cond a (cond b (cond c (Ok (found_in m)) (Err CodeDiffers)) (Err ShapeWrong)) (Err Input)) ≡ cond a (cond b (cond c 0 8) 4) 1
+    go : (a b c : Bool)
+        → opened_number (cond a (cond b (cond c (Ok (found_in_under k m)) (Err CodeDiffers)) (Err ShapeWrong)) (Err Input)) ≡ cond a (cond b (cond c 0 8) 4) 1
     go true true true = refl
     go true true false = refl
     go true false c = refl
     go false b c = refl
+
+pub number_opened : (key header m : List ℕ) → opened_number (opened key header m) ≡ open_number key header m
+number_opened = number_opened_under present
 
 values_opened : (key header m : List ℕ) → opened_values (opened key header m) ≡ cond (eqb (open_number key header m) 0) (tag_of m ∷ place_of (length_of m) ∷ length_of m ∷ []) []
 unfolding opened_under open_number_under opened_values

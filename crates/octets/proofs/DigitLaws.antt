@@ -1,18 +1,59 @@
--- The test of digits and of fillers after them; pairs of digits; hexadecimal digits. Assumes nothing.
+-- The turns of the loop that looks at digits and fillers; pairs of digits; hexadecimal digits. Assumes nothing.
 use Prim.Native.Nat.{ℕ, zero, suc, ◌+◌, ◌-◌, ◌*◌, ◌/◌, ◌≤◌, ◌<◌, zero-le, suc-le-suc}
 use native.Mathlib.Nat.{add-zero, mul-add-div, div-eq_of_lt, not-suc-le-zero, le_of_suc-le-suc, sub-zero, suc-sub-suc}
 use native.Mathlib.Omega.{arith}
-use mathlib.Core.Path.{◌≡◌, refl, sym, ap, ap₂, subst, ◌∙◌}
-use mathlib.Core.Bool.{Bool, true, false, ◌&&◌, and-false, and_assoc, and-eq-true_iff, false≢true}
+use native.Mathlib.Numerals.{add-one, sub-one}
+use mathlib.Core.Path.{◌≡◌, refl, sym, ap, ap₂, ◌∙◌}
+use mathlib.Core.Bool.{true, false, and-eq-true_iff, false≢true}
 use mathlib.Core.List.{List, [], ◌∷◌, ◌++◌}
-use lib.ListN.{length, get_or, take, drop, replicate}
-use lib.Seq.{length-take-le}
-use Rattle.std.specs.Prelude.{◌↔◌, EachIndex, IsTrue}
-use lib.Dec.{leb, eqb, eqb→eq}
-use borrow.Author.Tests.{eq-eqb, le-leb, leb-true, eqb-true}
+use lib.ListN.{length, get_or, take, drop, replicate, drop_of_length-le}
+use lib.Seq.{drop-cons}
+use lib.Dec.{leb, eqb, eqb-suc-zero, eqb→eq}
+use borrow.Author.Tests.{eq-eqb, ne_eqb, le-leb, lt-leb, leb-true, eqb-true}
+use Rattle.std.proofs.lemmas.Bool.Decides.{nat_tests}
 use Rattle.octets.specs.Digits.{digits, pairs, hex_digit, hex_value}
 use Rattle.octets.proofs.Table.{at}
 use Rattle.octets.proofs.Parts.{Below}
+
+step_high : (f k x : ℕ) (t : List ℕ) → (k ≡ 0 → ⊥) → 9 < x → digits f k (x ∷ t) ≡ false
+unfolding digits
+step_high f zero x t e h = absurd (e refl)
+step_high f (suc k) x t e h = rw (lt-leb _ _ h)
+
+step_more : (f k x : ℕ) (t : List ℕ) → (k ≡ 0 → ⊥) → x ≤ 9 → digits f k (x ∷ t) ≡ digits f (k - 1) t
+unfolding digits
+step_more f zero x t e h = absurd (e refl)
+step_more f (suc k) x t e h = rw (sub-one, le-leb _ _ h)
+
+-- k digits are left from place i on
+module _ (f n : ℕ) (s : List ℕ) (k i : ℕ) (p : i < length s) (w : digits f n s ≡ digits f k (drop i s)) where
+  pub digits_filler : k ≡ 0 → (get_or s i 0 ≡ f → ⊥) → false ≡ digits f n s
+  unfolding digits
+  digits_filler e h = sym (w ∙ rw (e, drop-cons s i 0) (rw (ne_eqb _ _ h)))
+
+  pub digits_rest : k ≡ 0 → get_or s i 0 ≡ f → (j : ℕ) → j ≡ k → digits f n s ≡ digits f j (drop (i + 1) s)
+  unfolding digits
+  digits_rest e h j u = w ∙ rw (u, e, add-one, drop-cons s i 0) (rw (eq-eqb _ _ h))
+
+  pub digits_high : (k ≡ 0 → ⊥) → 9 < get_or s i 0 → false ≡ digits f n s
+  digits_high e h = sym (w ∙ rw (drop-cons s i 0) (step_high f k _ _ e h))
+
+  pub digits_more : (k ≡ 0 → ⊥) → get_or s i 0 ≤ 9 → (j : ℕ) → j ≡ k - 1 → digits f n s ≡ digits f j (drop (i + 1) s)
+  digits_more e h j u = w ∙ rw (u, add-one, drop-cons s i 0) (step_more f k _ _ e h)
+
+end_of : (f k : ℕ) → digits f k [] ≡ eqb k 0
+unfolding digits
+end_of f zero = refl
+end_of f (suc k) = sym (eqb-suc-zero k)
+
+pub digits_end : (f n : ℕ) (s : List ℕ) (k i : ℕ) → length s ≤ i → digits f n s ≡ digits f k (drop i s) → eqb k 0 ≡ digits f n s
+digits_end f n s k i p w = sym (w ∙ ap (digits f k) (drop_of_length-le s {i = i} p) ∙ end_of f k)
+
+-- every place was looked at: the test of the length answers
+pub digits_over : (f n : ℕ) (s : List ℕ) (k i : ℕ) → i ≡ length s → k ≡ n - i → digits f n s ≡ digits f k (drop i s) → leb n (length s) ≡ digits f n s
+digits_over f n s k i p e w =
+    let h : leb n (length s) ≡ eqb k 0 = grind (arith, nat_tests) in
+    h ∙ digits_end f n s k i (omega arith) w
 
 -- what the test says of each digit, and the test of a list of digits alone
 pub digits_at : (f n : ℕ) (s : List ℕ) → digits f n s ≡ true → (i : ℕ) → i < n → get_or s i 0 ≤ 9
@@ -26,52 +67,6 @@ pub digits_all : (f : ℕ) (s : List ℕ) → ((i : ℕ) → i < length s → ge
 unfolding digits
 digits_all f [] h = refl
 digits_all f (x ∷ s) h = rw (le-leb x 9 (h zero (suc-le-suc zero-le))) (digits_all f s (λ i l. h (suc i) (suc-le-suc l)))
-
--- and of each filler
-fillers_at : (f : ℕ) (s : List ℕ) → digits f 0 s ≡ true → (i : ℕ) → i < length s → get_or s i 0 ≡ f
-unfolding digits
-fillers_at f [] t i h = absurd (not-suc-le-zero h)
-fillers_at f (x ∷ s) t zero h = eqb-true x f ((and-eq-true_iff (eqb x f) (digits f 0 s)).0 t).0
-fillers_at f (x ∷ s) t (suc i) h = fillers_at f s ((and-eq-true_iff (eqb x f) (digits f 0 s)).0 t).1 i (le_of_suc-le-suc h)
-
-fillers_all : (f : ℕ) (s : List ℕ) → ((i : ℕ) → i < length s → get_or s i 0 ≡ f) → digits f 0 s ≡ true
-unfolding digits
-fillers_all f [] h = refl
-fillers_all f (x ∷ s) h = rw (eq-eqb x f (h zero (suc-le-suc zero-le))) (fillers_all f s (λ i l. h (suc i) (suc-le-suc l)))
-
--- two tests that are true together
-alike : (a b : Bool) → (IsTrue a → b ≡ true) → (b ≡ true → IsTrue a) → a ≡ b
-alike true b p q = sym (p refl)
-alike false true p q = absurd (false≢true (q refl))
-alike false false p q = refl
-
--- a string too short, and one cut after its digits
-pub digits_few : (f n : ℕ) (s : List ℕ) → length s < n → false ≡ digits f n s
-unfolding digits
-digits_few f zero s h = absurd (not-suc-le-zero h)
-digits_few f (suc n) [] h = refl
-digits_few f (suc n) (x ∷ s) h = simp (sym (digits_few f n s (le_of_suc-le-suc h)), and-false)
-
-cut : (f n : ℕ) (s : List ℕ) → n ≤ length s → (digits f n (take n s) && digits f 0 (drop n s)) ≡ digits f n s
-unfolding digits
-cut f zero s h = refl
-cut f (suc n) [] h = absurd (not-suc-le-zero h)
-cut f (suc n) (x ∷ s) h = and_assoc (leb x 9) (digits f n (take n s)) (digits f 0 (drop n s)) ∙ ap (λ (b : Bool). leb x 9 && b) (cut f n s (le_of_suc-le-suc h))
-
-module _ (f n : ℕ) (s : List ℕ) (l : n ≤ length s) (a : Bool) (p : IsTrue a ↔ EachIndex (take n s) (λ k. get_or (take n s) k 0 ≤ 9)) where
-  front : a ≡ digits f n (take n s)
-  front =
-      let e : length (take n s) ≡ n = length-take-le n s l in
-      alike a (digits f n (take n s)) (λ t. subst (λ (k : ℕ). digits f k (take n s) ≡ true) e (digits_all f (take n s) (p.0 t)))
-      (λ t. p.1 (λ i h. digits_at f n (take n s) t i (omega (arith, e, h))))
-
-  pub digits_not : a ≡ false → a ≡ digits f n s
-  digits_not e = e ∙ sym (sym (cut f n s l) ∙ ap (λ (b : Bool). b && digits f 0 (drop n s)) (sym front ∙ e))
-
-  pub digits_cut : a ≡ true → (b : Bool) → (IsTrue b ↔ EachIndex (drop n s) (λ k. get_or (drop n s) k 0 ≡ f)) → b ≡ digits f n s
-  digits_cut e b q =
-      alike b (digits f 0 (drop n s)) (λ t. fillers_all f (drop n s) (q.0 t)) (λ t. q.1 (fillers_at f (drop n s) t))
-      ∙ sym (sym (cut f n s l) ∙ ap (λ (x : Bool). x && digits f 0 (drop n s)) (sym front ∙ e))
 
 -- there are as many places as digits
 pub digits_length : (f n : ℕ) (s : List ℕ) → digits f n s ≡ true → n ≤ length s

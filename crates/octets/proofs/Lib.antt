@@ -6,5 +6,4 @@ pub mod Table
 pub mod Parts
 pub mod Arms
 pub mod LaidLaws
-pub mod FillerLaws
 pub mod PointwiseLaws

@@ -62,11 +62,17 @@ pub fn same(a: &[u8], b: &[u8]) -> bool
 pub fn digits(s: &[u8], n: usize, filler: u8) -> bool
     ensures { result ≡ areDigits filler n s.now }
 {
-    if n > s.len() {
-        return false;
+    // One loop over all places: where their number is fixed, LLVM unrolls it, and would not unroll two of variable lengths.
+    for i in 0..s.len() {
+        if i < n {
+            if s[i] > 9 {
+                return false;
+            }
+        } else if s[i] != filler {
+            return false;
+        }
     }
-    let (front, rest) = s.split_at(n);
-    front.iter().all(|x| *x <= 9) && rest.iter().all(|x| *x == filler)
+    n <= s.len()
 }
 
 // The hexadecimal digit of the lower half of n.

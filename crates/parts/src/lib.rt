@@ -30,7 +30,7 @@ pub const CODE_STATE: usize = 53;
 
 // A message under way whose state a caller lends as bytes: how many they are, the state that they are, and the bytes of a state; how a part is taken,
 // and what its end answers.
-pub trait UnderWay<const N: usize>: Copy {
+trait UnderWay<const N: usize>: Copy {
     type Made;
 
     ghost form: { Form Self };
@@ -58,7 +58,7 @@ pub trait UnderWay<const N: usize>: Copy {
 }
 
 // A state begun, or why its key is refused, written as a lent state. 1: the state's length.
-pub fn begin<const N: usize, S: UnderWay<N>>(
+fn begin<const N: usize, S: UnderWay<N>>(
     begun: Result<S, Refusal>,
     state: &mut [u8],
 ) -> Result<(), Refusal>
@@ -72,7 +72,7 @@ pub fn begin<const N: usize, S: UnderWay<N>>(
 }
 
 // A lent state fed. 1: the state's length, or the total.
-pub fn feed<const N: usize, S: UnderWay<N>>(state: &mut [u8], part: &[u8]) -> Result<(), Refusal>
+fn feed<const N: usize, S: UnderWay<N>>(state: &mut [u8], part: &[u8]) -> Result<(), Refusal>
     ensures { (number_told result ≡ fed_number S.form S.way state.old part.now) × (state.new ≡ fed_after S.form S.way state.old part.now) }
 {
     if state.len() != S::size() {
@@ -83,7 +83,7 @@ pub fn feed<const N: usize, S: UnderWay<N>>(state: &mut [u8], part: &[u8]) -> Re
 }
 
 // A lent state ended. 1: a length; and what its end is refused for.
-pub fn end<const N: usize, S: UnderWay<N>>(state: &[u8], out: &mut [u8]) -> Result<(), Refusal>
+fn end<const N: usize, S: UnderWay<N>>(state: &[u8], out: &mut [u8]) -> Result<(), Refusal>
     ensures { (number_told result ≡ ended_number S.form N state.now out.old (S.ended (S.form.into state.now)))
         × (out.new ≡ ended_after S.form N state.now out.old (S.ended (S.form.into state.now))) }
 {
@@ -219,6 +219,9 @@ pub fn hash_begin(state: &mut [u8]) -> Result<(), Refusal>
     ensures { (number_told result ≡ begun_number hash_form (Ok begun) state.old)
         × (state.new ≡ begun_after hash_form (Ok begun) state.old) }
 {
+    if state.len() != HASH_STATE {
+        return Err(Refusal::Input);
+    }
     begin(Ok(hash::begin()), state)
 }
 
@@ -288,11 +291,14 @@ impl UnderWay<32> for Started {
     }
 }
 
-// An HMAC begun under a key of 32 bytes. 1: a length.
+// An HMAC begun under a key of 32 bytes. 1: a length. The state's is looked at first: of a call that it refuses the key is not read.
 pub fn hmac_begin(key: &[u8], state: &mut [u8]) -> Result<(), Refusal>
     ensures { (number_told result ≡ begun_number mac_form (mac_begun key.now) state.old)
         × (state.new ≡ begun_after mac_form (mac_begun key.now) state.old) }
 {
+    if state.len() != HMAC_STATE {
+        return Err(Refusal::Input);
+    }
     begin(derive::hmac_begin(key), state)
 }
 
@@ -390,11 +396,14 @@ impl UnderWay<4> for Coding {
     }
 }
 
-// A code begun under a key of 32 bytes. 1: a length.
+// A code begun under a key of 32 bytes. 1: a length, the state's first.
 pub fn code_begin(key: &[u8], state: &mut [u8]) -> Result<(), Refusal>
     ensures { (number_told result ≡ begun_number code_form (code_begun key.now) state.old)
         × (state.new ≡ begun_after code_form (code_begun key.now) state.old) }
 {
+    if state.len() != CODE_STATE {
+        return Err(Refusal::Input);
+    }
     begin(cipher::code_begin(key), state)
 }
 

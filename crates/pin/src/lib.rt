@@ -9,11 +9,12 @@ ghost use Rattle.pin.specs.Answers.{write_pin, read_block, read_pin, encipher_pi
 
 use answers::{Refusal, exactly};
 
-// A PIN in twelve places, zeros in the unused ones, and its count.
+// A PIN in twelve places, zeros in the unused ones, and its count. The count stands first, where a `Result` has the refusal of an `Err`: with the digits
+// there they would be taken apart after their first byte.
 #[derive(Clone, Copy, Debug, PartialEq, Eq)]
 pub struct Pin {
-    pub digits: [u8; 12],
     pub count: u8,
+    pub digits: [u8; 12],
 }
 
 // The counters of a counter block, by their names in 002.
@@ -105,7 +106,9 @@ fn twelve(h: [u8; 16], n: u8) -> [u8; 12]
 {
     let m = n as usize;
     let mut pin = [0; 12];
-    pin[..m].copy_from_slice(&h[2..2 + m]);
+    for i in 0..m {
+        pin[i] = h[2 + i];
+    }
     pin
 }
 

@@ -92,7 +92,7 @@ last_reads c [] = refl
 last_reads c (e ∷ t) = go (names c e) (last_reads c t)
   where
     go : (b : Bool) → last_of (reading c t) ≡ first (readings c t)
-        → last_of (cond b (Ok (counter_of e)) (reading c t)) ≡ first (cond b (counter_of e ∷ readings c t) (readings c t))
+        → last_of (cond b (Ok (record { known = e.known; last = e.last })) (reading c t)) ≡ first (cond b (counter_of e ∷ readings c t) (readings c t))
     go true ih = refl
     go false ih = ih
 

@@ -13,14 +13,14 @@ use borrow.Author.Tests.{ltb-true, ltb-false, not-true, not-false}
 use Rattle.std.specs.Prelude.{Option, Some, None, Result, Ok, Err}
 use Rattle.answers.specs.declared.Refusal.{Refusal}
 use Rattle.answers.specs.declared.Refusal.TheVariants.{UnknownCard, AlreadyHeld, TableFull}
-use Rattle.std.specs.Bool.{then_some}
 use Rattle.std.specs.Option.{ok_or}
 use Rattle.std.specs.List.{list_any, find, position, position_or_len}
 use Rattle.octets.specs.Same.{same}
 use Rattle.octets.proofs.PointwiseLaws.{pointwise_same}
 use Rattle.table.specs.declared.CardId.{CardId}
 use Rattle.table.specs.declared.Entry.{Entry}
-use Rattle.table.specs.Table.{same_id, names, held, room, counter_of}
+use Rattle.table.specs.declared.Last.{Last}
+use Rattle.table.specs.Table.{same_id, names, held, room}
 use Rattle.table.specs.Calls.{fresh, empty, placed, adding, each, cleared_entry, forgetting, kept_entry, keeping, reading}
 
 -- the derived test: digits, count, sequence
@@ -56,26 +56,22 @@ module _ (c : CardId) (e : Entry) (b : Bool) (w : b ≡ names c e) where
   unfolding kept_entry
   kept_no n h = rw (sym w ∙ h)
 
-pub then_counter : (e : Entry) → then_some e.known e.last ≡ counter_of e
-unfolding counter_of
-then_counter e = go e.known
-  where
-    go : (b : Bool) → then_some b e.last ≡ cond b (Some e.last) None
-    go true = refl
-    go false = refl
-
 -- what the searches through the places find
 pub held_any : (c : CardId) (t : List Entry) → list_any (names c) t ≡ held c t
 unfolding held
 held_any c [] = refl
 held_any c (e ∷ t) = ap (λ (r : Bool). names c e || r) (held_any c t)
 
-pub reading_first : (c : CardId) (t : List Entry) (e : Entry) → find (names c) t ≡ Some e → Ok (counter_of e) ≡ reading c t
+-- what a place keeps of a last counter
+abbrev kept_by : Entry → Last
+kept_by e = record { known = e.known; last = e.last }
+
+pub reading_first : (c : CardId) (t : List Entry) (e : Entry) → find (names c) t ≡ Some e → Ok (kept_by e) ≡ reading c t
 unfolding reading
 reading_first c [] e h = absurd (cc)
 reading_first c (x ∷ t) e h = go (names c x) h (reading_first c t e)
   where
-    go : (b : Bool) → cond b (Some x) (find (names c) t) ≡ Some e → (find (names c) t ≡ Some e → Ok (counter_of e) ≡ reading c t) → Ok (counter_of e) ≡ cond b (Ok (counter_of x)) (reading c t)
+    go : (b : Bool) → cond b (Some x) (find (names c) t) ≡ Some e → (find (names c) t ≡ Some e → Ok (kept_by e) ≡ reading c t) → Ok (kept_by e) ≡ cond b (Ok (kept_by x)) (reading c t)
     go true k ih = let f : e ≡ x = cc in rw f
     go false k ih = ih k
 
@@ -84,7 +80,7 @@ unfolding reading
 reading_none c [] h = refl
 reading_none c (x ∷ t) h = go (names c x) h (reading_none c t)
   where
-    go : (b : Bool) → cond b (Some x) (find (names c) t) ≡ None → (find (names c) t ≡ None → Err UnknownCard ≡ reading c t) → Err UnknownCard ≡ cond b (Ok (counter_of x)) (reading c t)
+    go : (b : Bool) → cond b (Some x) (find (names c) t) ≡ None → (find (names c) t ≡ None → Err UnknownCard ≡ reading c t) → Err UnknownCard ≡ cond b (Ok (kept_by x)) (reading c t)
     go true k ih = absurd (cc)
     go false k ih = ih k
 

@@ -1,6 +1,6 @@
 -- What the desk's calls do at the table, whatever else they compute: they add the card, forget it, or use it. A use sees the card's last counter, if any,
 -- gives an answer, and may give a counter to keep: checking and wrapping are uses. Assumes nothing.
-use Rattle.std.specs.Prelude.{ℕ, cond, List, Option, None, Some, Result}
+use Rattle.std.specs.Prelude.{ℕ, cond, List, Option, None, Some, Result, Ok, Err}
 use Rattle.std.specs.Result.{result_unwrap_or}
 use Rattle.answers.specs.declared.Refusal.{Refusal}
 use Rattle.answers.specs.declared.Refusal.TheVariants.{UnknownCard}
@@ -8,6 +8,7 @@ use Rattle.answers.specs.Refusals.{number as number_of}
 use Rattle.answers.specs.Answers.{number_told}
 use Rattle.table.specs.declared.CardId.{CardId}
 use Rattle.table.specs.declared.Entry.{Entry}
+use Rattle.table.specs.declared.Last.{Last}
 use Rattle.table.specs.Table.{held}
 use Rattle.table.specs.Calls.{adding, forgetting, keeping, reading}
 
@@ -26,8 +27,9 @@ pub record Outcome (A : Type 0) : Type 0 where
   pub given : Option A
   pub table : List Entry
 
-abbrev pub last_of : Result (Option ℕ) Refusal → Option ℕ
-last_of x = result_unwrap_or x None
+abbrev pub last_of : Result Last Refusal → Option ℕ
+last_of (Ok x) = cond x.known (Some x.last) None
+last_of (Err q) = None
 
 -- "a refusal changes no entry"
 abbrev pub table_after : Result (List Entry) Refusal → List Entry → List Entry

@@ -1,10 +1,11 @@
 -- What is done at a table, for every table (Wish 7: "19 unknown card, 20 card already held, 21 no room"): the places after it, or why it is refused. Assumes nothing.
-use Rattle.std.specs.Prelude.{ℕ, true, false, cond, List, [], ◌∷◌, replicate, Option, Result, Ok, Err}
+use Rattle.std.specs.Prelude.{ℕ, true, false, cond, List, [], ◌∷◌, replicate, Result, Ok, Err}
 use Rattle.answers.specs.declared.Refusal.{Refusal}
 use Rattle.answers.specs.declared.Refusal.TheVariants.{UnknownCard, AlreadyHeld, TableFull}
 use Rattle.table.specs.declared.CardId.{CardId}
 use Rattle.table.specs.declared.Entry.{Entry}
-use Rattle.table.specs.Table.{names, held, room, counter_of}
+use Rattle.table.specs.declared.Last.{Last}
+use Rattle.table.specs.Table.{names, held, room}
 
 -- "A forgotten card added again starts with no last counter": the place of a card that is added
 abbrev pub fresh : CardId → Entry
@@ -42,7 +43,7 @@ kept_entry c n e = cond (names c e) (record { held = e.held; id = e.id; known = 
 unfoldable pub keeping : CardId → ℕ → List Entry → Result (List Entry) Refusal
 keeping c n t = cond (held c t) (Ok (each (kept_entry c n) t)) (Err UnknownCard)
 
--- the last counter, if any, at the first place that holds the card
-unfoldable pub reading : CardId → List Entry → Result (Option ℕ) Refusal
+-- the last counter at the first place that holds the card
+unfoldable pub reading : CardId → List Entry → Result Last Refusal
 reading c [] = Err UnknownCard
-reading c (e ∷ t) = cond (names c e) (Ok (counter_of e)) (reading c t)
+reading c (e ∷ t) = cond (names c e) (Ok (record { known = e.known; last = e.last })) (reading c t)

@@ -2,7 +2,7 @@
 #![tactic(auto)]
 
 ghost use Rattle.std.specs.Prelude.{◌≡◌};
-ghost use Rattle.table.specs.Table.{names, held as heldIn, counter_of as counterOf};
+ghost use Rattle.table.specs.Table.{names, held as heldIn};
 ghost use Rattle.table.specs.Calls.{fresh as freshFor, cleared_entry, kept_entry, adding, forgetting, reading, keeping};
 
 use answers::Refusal;
@@ -20,6 +20,13 @@ pub struct CardId {
 pub struct Entry {
     pub held: bool,
     pub id: CardId,
+    pub known: bool,
+    pub last: u16,
+}
+
+// Whether a card has a last counter, and which.
+#[derive(Clone, Copy)]
+pub struct Last {
     pub known: bool,
     pub last: u16,
 }
@@ -80,13 +87,6 @@ fn with(mut e: Entry, c: CardId, counter: u16) -> Entry
     e
 }
 
-// The last counter that a place keeps, if any.
-fn counter_of(e: Entry) -> Option<u16>
-    ensures { result ≡ counterOf e }
-{
-    e.known.then_some(e.last)
-}
-
 // Adds a card: 20 if it is held, 21 if there is no room.
 pub fn add(mut places: [Entry; 64], c: CardId) -> Result<[Entry; 64], Refusal>
     ensures { result ≡ adding c places }
@@ -115,12 +115,15 @@ pub fn forget(mut places: [Entry; 64], c: CardId) -> Result<[Entry; 64], Refusal
     Ok(places)
 }
 
-// The last counter of a card, if any, at the first place that holds it: 19 if none does.
-pub fn last_of(places: [Entry; 64], c: CardId) -> Result<Option<u16>, Refusal>
+// The last counter of a card, at the first place that holds it: 19 if none does.
+pub fn last_of(places: [Entry; 64], c: CardId) -> Result<Last, Refusal>
     ensures { result ≡ reading c places }
 {
     match places.iter().find(|e| is_for(**e, c)) {
-        Some(e) => Ok(counter_of(*e)),
+        Some(e) => Ok(Last {
+            known: e.known,
+            last: e.last,
+        }),
         None => Err(Refusal::UnknownCard),
     }
 }

@@ -28,9 +28,6 @@ returns-then-not-all_fit c = let a = c.args in
     no_card a.issuer.now a.cards.now a.out.now c.if-issuer-ne32.false c.if-cards-ne0.false l
     (sym c.all_fit.ensures ∙ not-true _ (ap not c.if-not-all_fit.true))
 
-pub put_keys-requires : goal.put_keys-requires
-put_keys-requires c = (search rules, omega arith, omega arith, sym c.all_fit.ensures ∙ not-false _ (ap not c.if-not-all_fit.false))
-
 pub returns : goal.returns
 returns c = let k = c.key_of in
     let a = c.args in

@@ -20,5 +20,5 @@ halves_of-requires c = let b : length c.args.s.buffer ≡ 8 = search (rules, c.w
 pub returns : goal.returns
 returns c = let b : length c.args.s.buffer ≡ 8 = search (rules, c.well_formed) in
     push_full c.args.s c.args.b (search rules) b c.if-s-lt7.false _
-    (c.absorb-s.ensures
+    (c.absorb.ensures
     ∙ ap (λ (x : Halves). rounds (c.args.s.subkeys ++ c.args.s.subkeys) (added c.args.s.halves x)) c.halves_of.ensures)

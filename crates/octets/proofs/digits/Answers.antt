@@ -1,22 +1,17 @@
-use Rattle.std.proofs.Common.{◌≡◌, ◌≤◌, get_or, take, drop, IsTrue, ◌↔◌, rules}
-use Rattle.std.specs.List.{EachIndex}
-use Rattle.octets.proofs.DigitLaws.{digits_few, digits_not, digits_cut}
+-- The digits that are left, from the place reached. Assumes nothing.
+use native.Mathlib.Omega.{arith}
+use Rattle.octets.proofs.DigitLaws.{digits_filler, digits_high, digits_rest, digits_more, digits_over}
+use Rattle.octets.proofs.digits.Goals.{then-i-n+else-s-i-gt9, else-i-n+else-s-i}
 use Rattle.octets.proofs.digits.Goals as goal
 
-pub returns-then-n-s : goal.returns-then-n-s
-returns-then-n-s c = digits_few _ _ _ c.if-n-s.true
+pub returns-then-s-i-gt9 : goal.returns-then-s-i-gt9
+returns-then-s-i-gt9 c = search (arith, digits_high)
 
-pub returns-then-all : goal.returns-then-all
-returns-then-all c =
-    let n = c.args.n in
-    let s = c.args.s.now in
-    let p : IsTrue c.all.result ↔ EachIndex (take n s) (λ k. get_or (take n s) k 0 ≤ 9) = search rules in
-    let q : IsTrue c.all-then-all.result ↔ EachIndex (drop n s) (λ k. get_or (drop n s) k 0 ≡ c.args.filler) = search rules in
-    digits_cut c.args.filler n s c.if-n-s.false c.all.result p c.if-all.true c.all-then-all.result q
+pub returns-then-s-i : goal.returns-then-s-i
+returns-then-s-i c = search (arith, digits_filler)
 
-pub returns-else-all : goal.returns-else-all
-returns-else-all c =
-    let n = c.args.n in
-    let s = c.args.s.now in
-    let p : IsTrue c.all.result ↔ EachIndex (take n s) (λ k. get_or (take n s) k 0 ≤ 9) = search rules in
-    digits_not c.args.filler n s c.if-n-s.false c.all.result p c.if-all.false
+pub loop-i-preserved : goal.loop-i-preserved
+loop-i-preserved c = elim c.if-i-n.branch [ then-i-n+else-s-i-gt9 w ↦ search (arith, digits_more) | else-i-n+else-s-i w ↦ search (arith, digits_rest) ]
+
+pub returns : goal.returns
+returns c = search (arith, digits_over)

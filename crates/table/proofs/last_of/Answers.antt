@@ -1,6 +1,5 @@
 use mathlib.Core.Path.{sym, ap, ◌∙◌}
 use Rattle.std.proofs.Common.{rules, tests}
-use Rattle.std.specs.Prelude.{Ok}
 use Rattle.std.specs.Option.{option_map}
 use Rattle.std.proofs.lemmas.Iterator.{YieldsList-from_slice}
 use Rattle.std.proofs.lemmas.Iterator.Search.{find_from_yields_List}
@@ -10,8 +9,7 @@ use Rattle.table.proofs.last_of.Goals as goal
 
 pub returns-in-Some : goal.returns-in-Some
 returns-in-Some c =
-    ap Ok c.counter_of.ensures
-    ∙ reading_first _ _ _
+    reading_first _ _ _
     (sym (find_from_yields_List (names c.args.c) _ _ c.find.result c.find.ensures.ran (YieldsList-from_slice c.args.places c.iter.ensures.rest) (λ x b q k. search (rules, tests)))
     ∙ ap (option_map _) c.in-Some.is)
 

@@ -33,6 +33,7 @@ cases_before =
       byte_81 = λ a b c d. refl;
       opens_1_4 = refl;
       refused_1_4 = refl;
+      refused_4_8 = λ a b c d. refl;
       wraps_1_3 = refl;
       wraps_128 = refl;
       wraps_3 = refl;

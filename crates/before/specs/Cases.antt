@@ -19,6 +19,8 @@ pub record CasesBefore : Type 0 where
   -- opening: 1 ahead of 4; wrapping: 1 ahead of 3, and "Its size is L + 8"
   pub opens_1_4 : open_number_under short_scripts [] [] [] ≡ 1
   pub refused_1_4 : opened_under short_scripts [] [] [] ≡ Err Input
+  -- and 4 ahead of 8: what had another shape was not looked at further, whatever its code
+  pub refused_4_8 : (a b c d : ℕ) → opened_under short_scripts (replicate 32 0) (replicate 4 0) (message_of (0x81 ∷ 0x80 ∷ []) 128 a b c d) ≡ Err ShapeWrong
   pub wraps_1_3 : wrap_number_under short_scripts [] (replicate 4 0) 0x81 0 7 0 ≡ 1
   pub wraps_128 : wrap_number_under short_scripts (replicate 32 0) (replicate 4 0) 0x81 128 300 0 ≡ 1
   pub wraps_3 : wrap_number_under short_scripts (replicate 32 0) (replicate 4 0) 0x81 127 134 0 ≡ 3

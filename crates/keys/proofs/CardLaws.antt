@@ -83,9 +83,9 @@ module _ (x : List ℕ) where
 
 -- the last fourteen digits of a card number, behind zeros, and the two of the sequence number
 pub sixteen_laid : (pan : List ℕ) (q k : ℕ) (s : List ℕ) → k ≡ length pan - 14 → s ≡ drop k pan → (a b : ℕ) → a ≡ 14 - length s → b ≡ length s
-    → set (set (put_mid a b (zeros 16) s) 14 (q / 10)) 15 (q % 10) ≡ sixteen (X pan q)
+    → {i j : ℕ} → i ≡ q / 10 → j ≡ q % 10 → set (set (put_mid a b (zeros 16) s) 14 i) 15 j ≡ sixteen (X pan q)
 unfolding sixteen X
-sixteen_laid pan q k s e f a b ea eb =
+sixteen_laid pan q k s e f a b ea eb ei ej =
     let x : List ℕ = q / 10 ∷ q % 10 ∷ [] in
     let n : length (pan ++ x) ≡ length pan + 2 = length-append pan x in
     let m : length s ≡ length pan - k = ap length f ∙ length-drop k pan in
@@ -97,7 +97,8 @@ sixteen_laid pan q k s e f a b ea eb =
     let w : put_mid a b (zeros 16) s ≡ (zeros a ++ s) ++ 0 ∷ 0 ∷ [] =
     ap₂ (λ (u v : List ℕ). u ++ (s ++ v)) z y ∙ sym (append_assoc (zeros a) s (0 ∷ 0 ∷ [])) in
     let l : length (zeros a ++ s) ≡ 14 = simp (length-append, length-replicate) (omega arith) in
-    ap (λ (u : List ℕ). set (set u 14 (q / 10)) 15 (q % 10)) w
+    ap₂ (λ (i j : ℕ). set (set (put_mid a b (zeros 16) s) 14 i) 15 j) ei ej
+    ∙ ap (λ (u : List ℕ). set (set u 14 (q / 10)) 15 (q % 10)) w
     ∙ ap (λ (u : List ℕ). set u 15 (q % 10)) (set-append_right (zeros a ++ s) (0 ∷ 0 ∷ []) 14 14 (q / 10) l (omega arith))
     ∙ set-append_right (zeros a ++ s) (q / 10 ∷ 0 ∷ []) 14 15 (q % 10) l (omega arith)
     ∙ append_assoc (zeros a) s x

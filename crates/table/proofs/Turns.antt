@@ -75,6 +75,11 @@ reading_first c (x ∷ t) e h = go (names c x) h (reading_first c t e)
     go true k ih = let f : e ≡ x = cc in rw f
     go false k ih = ih k
 
+-- l is the counter that the entry says
+pub reading_said : (c : CardId) (t : List Entry) (e : Entry) → find (names c) t ≡ Some e → {l : ℕ} → l ≡ e.last
+    → Ok (record { known = e.known; last = l }) ≡ reading c t
+reading_said c t e h f = ap {B = Result Last Refusal} (λ (j : ℕ). Ok (record { known = e.known; last = j })) f ∙ reading_first c t e h
+
 pub reading_none : (c : CardId) (t : List Entry) → find (names c) t ≡ None → Err UnknownCard ≡ reading c t
 unfolding reading
 reading_none c [] h = refl

@@ -85,9 +85,12 @@ unfit_of c e = go (card_fits (pan_of c) (sequence_of c)) e
     go false e = refl
 
 -- the seed of a card that fits; zeros stand for another's
-pub seed_is : (c : List ℕ) → card_fits (pan_of c) (sequence_of c) ≡ true → result_unwrap_or (seed_of c) (replicate 8 0) ≡ Y (pan_of c) (sequence_of c)
+pub seed_is : (c : List ℕ) → card_fits (pan_of c) (sequence_of c) ≡ true → seed_of c ≡ Ok (Y (pan_of c) (sequence_of c))
 unfolding seed_of seed_answer
 seed_is c f = simp f
+
+pub seed_or_zeros : (c : List ℕ) → card_fits (pan_of c) (sequence_of c) ≡ true → result_unwrap_or (seed_of c) (replicate 8 0) ≡ Y (pan_of c) (sequence_of c)
+seed_or_zeros c f = ap (λ (r : Result (List ℕ) Refusal). result_unwrap_or r (replicate 8 0)) (seed_is c f)
 
 -- i of n cards are looked at
 module _ (cs : List ℕ) (n i : ℕ) (h : i < n) where
@@ -148,7 +151,7 @@ module _ (key : List ℕ) (h : length key ≡ 32) where
   one : (c : List ℕ) → card_fits (pan_of c) (sequence_of c) ≡ true
       → derived_kept (kept_words key) card_label (result_unwrap_or (seed_of c) (replicate 8 0)) ≡ result_unwrap_or (card_key key (pan_of c) (sequence_of c)) (replicate 32 0)
   one c f =
-      ap (derived_kept (kept_words key) card_label) (seed_is c f)
+      ap (derived_kept (kept_words key) card_label) (seed_or_zeros c f)
       ∙ derived_kept_lem key card_label (Y (pan_of c) (sequence_of c)) h
       ∙ sym (ap (λ (r : Result (List ℕ) Refusal). result_unwrap_or r (replicate 32 0)) (card_is key h (pan_of c) (sequence_of c) f))
 

@@ -30,7 +30,7 @@ pub const CODE_STATE: usize = 53;
 
 // A message under way whose state a caller lends as bytes: how many they are, the state that they are, and the bytes of a state; how a part is taken,
 // and what its end answers.
-trait UnderWay<const N: usize>: Copy {
+pub trait UnderWay<const N: usize>: Copy {
     type Made;
 
     ghost form: { Form Self };
@@ -58,7 +58,7 @@ trait UnderWay<const N: usize>: Copy {
 }
 
 // A state begun, or why its key is refused, written as a lent state. 1: the state's length.
-fn begin<const N: usize, S: UnderWay<N>>(
+pub fn begin<const N: usize, S: UnderWay<N>>(
     begun: Result<S, Refusal>,
     state: &mut [u8],
 ) -> Result<(), Refusal>
@@ -72,7 +72,7 @@ fn begin<const N: usize, S: UnderWay<N>>(
 }
 
 // A lent state fed. 1: the state's length, or the total.
-fn feed<const N: usize, S: UnderWay<N>>(state: &mut [u8], part: &[u8]) -> Result<(), Refusal>
+pub fn feed<const N: usize, S: UnderWay<N>>(state: &mut [u8], part: &[u8]) -> Result<(), Refusal>
     ensures { (number_told result ≡ fed_number S.form S.way state.old part.now) × (state.new ≡ fed_after S.form S.way state.old part.now) }
 {
     if state.len() != S::size() {
@@ -83,7 +83,7 @@ fn feed<const N: usize, S: UnderWay<N>>(state: &mut [u8], part: &[u8]) -> Result
 }
 
 // A lent state ended. 1: a length; and what its end is refused for.
-fn end<const N: usize, S: UnderWay<N>>(state: &[u8], out: &mut [u8]) -> Result<(), Refusal>
+pub fn end<const N: usize, S: UnderWay<N>>(state: &[u8], out: &mut [u8]) -> Result<(), Refusal>
     ensures { (number_told result ≡ ended_number S.form N state.now out.old (S.ended (S.form.into state.now)))
         × (out.new ≡ ended_after S.form N state.now out.old (S.ended (S.form.into state.now))) }
 {
@@ -421,4 +421,31 @@ pub fn code_end(state: &[u8], out: &mut [u8]) -> Result<(), Refusal>
         × (out.new ≡ ended_after code_form 4 state.now out.old (code_ended (code_in state.now))) }
 {
     end::<4, Coding>(state, out)
+}
+
+#[cfg(test)]
+mod tests {
+    use super::{HASH_STATE, begin, end, feed};
+    use hash::State;
+
+    // The message M1 of RFC 6986, and its hash.
+    const MESSAGE: &[u8; 63] = b"012345678901234567890123456789012345678901234567890123456789012";
+
+    const HASH: [u8; 32] = [
+        0x9d, 0x15, 0x1e, 0xef, 0xd8, 0x59, 0x0b, 0x89, 0xda, 0xa6, 0xba, 0x6c, 0xb7, 0x4a, 0xf9,
+        0x27, 0x5d, 0xd0, 0x51, 0x02, 0x6b, 0xb1, 0x49, 0xa4, 0x52, 0xfd, 0x84, 0xe5, 0xe5, 0x7b,
+        0x55, 0x00,
+    ];
+
+    #[test]
+    fn hash_in_two_parts(rt: HostRuntime) {
+        let (first, rest) = MESSAGE.split_at(40);
+        let mut state = [0xff; HASH_STATE];
+        let mut out = [0xff; 32];
+        assert_eq!(rt; begin::<32, State>(Ok(hash::begin()), &mut state), Ok(()));
+        assert_eq!(rt; feed::<32, State>(&mut state, first), Ok(()));
+        assert_eq!(rt; feed::<32, State>(&mut state, rest), Ok(()));
+        assert_eq!(rt; end::<32, State>(&state, &mut out), Ok(()));
+        assert_eq!(rt; out, HASH);
+    }
 }

@@ -408,3 +408,39 @@ pub extern "C" fn box_desk_wrap(
         place,
     ))
 }
+
+// What `parts` hands to any crate above it, called from one.
+#[cfg(test)]
+mod tests {
+    use answers::Refusal;
+    use hash::State;
+    use parts::{HASH_STATE, UnderWay, begin, end, feed};
+
+    // The message M1 of RFC 6986, and its hash.
+    const MESSAGE: &[u8; 63] = b"012345678901234567890123456789012345678901234567890123456789012";
+
+    const HASH: [u8; 32] = [
+        0x9d, 0x15, 0x1e, 0xef, 0xd8, 0x59, 0x0b, 0x89, 0xda, 0xa6, 0xba, 0x6c, 0xb7, 0x4a, 0xf9,
+        0x27, 0x5d, 0xd0, 0x51, 0x02, 0x6b, 0xb1, 0x49, 0xa4, 0x52, 0xfd, 0x84, 0xe5, 0xe5, 0x7b,
+        0x55, 0x00,
+    ];
+
+    #[test]
+    fn hash_in_two_parts() -> Result<(), Refusal> {
+        if <State as UnderWay<32>>::size() != HASH_STATE {
+            return Err(Refusal::Input);
+        }
+        let (first, rest) = MESSAGE.split_at(40);
+        let mut state = [0xff; HASH_STATE];
+        let mut out = [0xff; 32];
+        begin::<32, State>(Ok(hash::begin()), &mut state)?;
+        feed::<32, State>(&mut state, first)?;
+        feed::<32, State>(&mut state, rest)?;
+        end::<32, State>(&state, &mut out)?;
+        if out == HASH {
+            Ok(())
+        } else {
+            Err(Refusal::CodeDiffers)
+        }
+    }
+}
